@@ -1,0 +1,6 @@
+pub mod Names
+pub mod Groups
+pub mod Numbers
+pub mod Instance
+pub mod Stability
+pub mod WellFormed

@@ -1,2 +1,4 @@
 mod Cuts
+pub mod Membership
+pub mod Numbers
 mod Worked

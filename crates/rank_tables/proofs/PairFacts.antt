@@ -25,8 +25,9 @@ hospital_names-declared lists h r e = elim (cases_lt h (length lists.hospitals))
   | inr past ↦ absurd (cc (e, ap (λ o. is_in r (concat (unwrap_or (option_map (λ hospital. hospital.groups) o) []))) (slice_get_past lists.hospitals h past)))
 ]
 
-all_in : (xs : List ℕ) → All (λ x. is_in x xs ≡ true) xs
-all_in xs k d l = list_any_at (λ y. y == get_or xs k d) xs k d l (eq-eqb _ _ refl)
+-- each number of a list stands in it
+pub All-is_in : (xs : List ℕ) → All (λ x. is_in x xs ≡ true) xs
+All-is_in xs k d l = list_any_at (λ y. y == get_or xs k d) xs k d l (eq-eqb _ _ refl)
 
 all_from : (lists : Lists) (r : ℕ) → r < length lists.residents → All (IsAcceptable lists) (pairs_from lists r)
 all_from lists r l =
@@ -35,7 +36,7 @@ all_from lists r l =
     All-map (IsAcceptable lists) (λ h. record { resident = r; hospital = h }) (filter test xs) (λ k d s. record {
       resident_declared = l;
       hospital_declared = hospital_names-declared lists _ r (filter_passes test xs k d s);
-      names_hospital = All-filter test (λ x. is_in x xs ≡ true) xs (all_in xs) k d s;
+      names_hospital = All-filter test (λ x. is_in x xs ≡ true) xs (All-is_in xs) k d s;
       names_resident = filter_passes test xs k d s;
     })
 

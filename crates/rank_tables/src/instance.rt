@@ -5,20 +5,10 @@ ghost use Rattle.rank_tables.specs.WellFormed.{IsWellFormed, names_of_residents,
 ghost use Rattle.rank_tables.specs.Tables.{IsPairNo, IsOfResident, IsOfHospital, numbers_of, entry_of};
 
 use crate::entry::PairEntry;
-use crate::{Draft, DraftHospital, DraftResident, Groups, Name};
+use crate::{BuildRefusal, Draft, DraftHospital, DraftResident, Groups, Name};
 use hrt_base::PairNo;
 use std::alloc::Global;
 use std::marker::Model;
-use thiserror::Error;
-
-/// Why no instance was built.
-#[derive(Debug, Drop, Error)]
-pub enum BuildRefusal {
-    #[error("there are more than 100,000 acceptable pairs")]
-    TooManyPairs,
-    #[error("out of memory")]
-    NoMemory,
-}
 
 /// An instance, seen as its written lists. Residents and hospitals are numbered from 0, pairs from 1.
 #[derive(Debug, Drop)]

@@ -1,6 +1,6 @@
 -- The hospitals' lists turned round: what the namings of a resident say.
-use Rattle.std.proofs.Common.{◌≡◌, ℕ, zero, suc, ◌+◌, ◌<◌, ◌≤◌, Bool, true, false, cond, not, nat_lt, ◌==◌, if◌then◌else◌, List, [], ◌∷◌, ◌++◌, length, map, get_or, slice_index, take, drop, inl, inr, refl, sym, ap, ◌∙◌, arith, add-one, eq-eqb, length-append}
-use Rattle.std.specs.List.{concat, filter, flat_map, fold, All}
+use Rattle.std.proofs.Common.{◌≡◌, ℕ, zero, suc, ◌+◌, ◌<◌, ◌≤◌, Bool, true, false, cond, nat_lt, ◌==◌, if◌then◌else◌, List, [], ◌∷◌, ◌++◌, length, map, get_or, slice_index, take, drop, inl, inr, refl, sym, ap, ◌∙◌, arith, add-one, eq-eqb, length-append}
+use Rattle.std.specs.List.{concat, filter, flat_map, All}
 use Rattle.std.proofs.lemmas.List.{append-nil, length-map, take-append-drop, drop_more}
 use Rattle.std.proofs.lemmas.List.Concat.{flat_map-append}
 use Rattle.std.proofs.lemmas.List.Elements.{All-nil, All-append, All-map, filter-append}

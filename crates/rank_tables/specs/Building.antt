@@ -7,7 +7,7 @@ use Rattle.rank_tables.specs.declared.draft.DraftHospital.{DraftHospital}
 use Rattle.rank_tables.specs.declared.entry.PairEntry.{PairEntry}
 use Rattle.rank_tables.specs.declared.marks.Mark.{Mark}
 use Rattle.rank_tables.specs.Numbers.{below, numbers_to}
-use Rattle.rank_tables.specs.Instance.{rank_in}
+use Rattle.rank_tables.specs.Instance.{Lists, rank_in}
 
 abbrev pub mark_of : ℕ → ℕ → Mark
 mark_of number value = record { number = number; value = value }
@@ -73,3 +73,7 @@ marks_with keys values value = map (λ p. mark_of (slice_index keys (p - 1)) p) 
 -- the numbers that marks give to the numbers of a list, in its order
 abbrev pub numbered : List (List ℕ) → List Mark → List ℕ
 numbered groups marks = filter (nat_lt 0) (map (λ r. marked r marks 0) (concat groups))
+
+-- the lists of both sides
+abbrev pub both : List DraftResident → List DraftHospital → Lists
+both residents hospitals = record { residents = residents; hospitals = hospitals }

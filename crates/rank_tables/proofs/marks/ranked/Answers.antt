@@ -1,4 +1,4 @@
-use Rattle.std.proofs.Common.{◌≡◌, arith}
+use Rattle.std.proofs.Common.{arith}
 use Rattle.rank_tables.proofs.Ranks.{marks_from-all, group_added}
 use Rattle.rank_tables.proofs.marks.ranked.Goals as goal
 

@@ -1,7 +1,7 @@
-use Rattle.std.proofs.Common.{◌≡◌, ◌<◌, ◌++◌, length, ap, sym, ◌∙◌, arith}
+use Rattle.std.proofs.Common.{◌<◌, ◌++◌, length, ap, sym, ◌∙◌, arith}
 use Rattle.std.proofs.lemmas.List.Elements.{All-same}
 use Rattle.rank_tables.specs.declared.marks.Mark.{Mark}
-use Rattle.rank_tables.specs.Building.{row_at, naming, namings_of, with_ranks, hospital_groups}
+use Rattle.rank_tables.specs.Building.{naming, namings_of, with_ranks, hospital_groups}
 use Rattle.rank_tables.proofs.ListFacts.{hospital_list-ranked, hospital_groups-read}
 use Rattle.rank_tables.proofs.Ranks.{with_ranks-below}
 use Rattle.rank_tables.proofs.Turning.{flat_map-below}

@@ -1,4 +1,3 @@
-use Rattle.std.proofs.Common.{◌≡◌, ap, arith}
 use Rattle.rank_tables.proofs.RowsGrow.{row_pushed}
 use Rattle.rank_tables.proofs.rows.push_at.Goals as goal
 

@@ -1,7 +1,16 @@
-pub mod Below
 mod Cuts
+mod Listed
+mod OneSided
+mod RowsGrow
+mod RowsMade
+mod TablesMade
+mod Turning
+mod Worked
+pub mod Below
+pub mod ListFacts
 pub mod Membership
 pub mod Numbers
 pub mod PairFacts
+pub mod Ranks
 pub mod TableFacts
-mod Worked
+pub mod Unique

@@ -21,7 +21,7 @@ tally_of owner rank (q ∷ m) k =
     if owner q == k then one_more (tally_of owner rank m k) (rank q) else tally_of owner rank m k
 
 -- Of each k below count, the table has what the pairs m make of it.
-pub record AreTallies (owner rank : ℕ → ℕ) (m : List ℕ) (count : ℕ) (table : List Tally) : Type 0 where
+pub record IsTallied (owner rank : ℕ → ℕ) (m : List ℕ) (count : ℕ) (table : List Tally) : Type 0 where
   pub size : length table ≡ count
   pub each : (k : ℕ) → k < count → slice_index_or table k no_pair ≡ tally_of owner rank m k
 
@@ -33,9 +33,9 @@ abbrev pub hospital_of : Lists → ℕ → ℕ
 hospital_of lists q = (pair_at lists q).hospital
 
 -- Both tables of an audit of the pairs m.
-pub record AreTables (lists : Lists) (m : List ℕ) (residents hospitals : List Tally) : Type 0 where
-  pub of_residents : AreTallies (resident_of lists) (rank_by_resident lists) m (length lists.residents) residents
-  pub of_hospitals : AreTallies (hospital_of lists) (rank_by_hospital lists) m (length lists.hospitals) hospitals
+pub record AreTallied (lists : Lists) (m : List ℕ) (residents hospitals : List Tally) : Type 0 where
+  pub of_residents : IsTallied (resident_of lists) (rank_by_resident lists) m (length lists.residents) residents
+  pub of_hospitals : IsTallied (hospital_of lists) (rank_by_hospital lists) m (length lists.hospitals) hospitals
 
 -- nothing stands in the table
 abbrev pub IsClear : List Tally → Type 0

@@ -1,7 +1,6 @@
 -- What an audit is asked, and what it answers.
-use Rattle.std.specs.Prelude.{ℕ, ◌&&◌, nat_lt, nat_le, IsTrue, List, length, map, Option, Some, None}
+use Rattle.std.specs.Prelude.{ℕ, ◌&&◌, nat_lt, nat_le, IsTrue, List, length, Option, Some, None}
 use Rattle.std.specs.List.{find, list_all}
-use Rattle.hrt_base.specs.declared.numbered.PairNo.{PairNo}
 use Rattle.rank_tables.specs.Numbers.{below, numbers_to, is_distinct}
 use Rattle.rank_tables.specs.Instance.{Lists, pair_count, capacity_of}
 use Rattle.rank_tables.specs.Stability.{uses_of_resident, uses_of_hospital, blocks}
@@ -15,9 +14,6 @@ pub record Sizes : Type 0 where
 
 abbrev pub sizes_of : Lists → Sizes
 sizes_of lists = record { residents = length lists.residents; hospitals = length lists.hospitals }
-
-abbrev pub numbers_of : List PairNo → List ℕ
-numbers_of pairs = map (λ (pair : PairNo). pair.0) pairs
 
 -- Distinct numbers of acceptable pairs.
 pub record ArePairs (lists : Lists) (m : List ℕ) : Type 0 where

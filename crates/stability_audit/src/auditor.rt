@@ -1,7 +1,8 @@
 // The audit.
 ghost use Rattle.std.specs.Prelude.{◌≡◌, ◌↔◌, IfOk, IsTrue};
 ghost use Rattle.rank_tables.specs.Stability.{is_weakly_stable};
-ghost use Rattle.stability_audit.specs.Verdict.{ArePairs, sizes_of, numbers_of, verdict_of};
+ghost use Rattle.rank_tables.specs.Tables.{numbers_of};
+ghost use Rattle.stability_audit.specs.Verdict.{ArePairs, sizes_of, verdict_of};
 
 use crate::Verdict;
 use crate::tallies::Tallies;
@@ -29,7 +30,7 @@ impl Model for Auditor {
 }
 
 impl Auditor {
-    /// An auditor for instances of as many residents and hospitals as this one. It keeps 8 bytes for each.
+    /// An auditor for instances of as many residents and hospitals as this one. It keeps 16 bytes for each.
     pub fn new(alloc: Global, inst: &Instance) -> Result<Auditor, NoMemory>
         ensures { IfOk result (λ auditor. auditor ≡ sizes_of inst.now) }
     {

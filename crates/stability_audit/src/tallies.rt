@@ -3,9 +3,9 @@ ghost use Rattle.std.specs.Prelude.{◌≡◌, [], length, IfOk, option_map};
 ghost use Rattle.std.specs.List.{find};
 ghost use Rattle.rank_tables.specs.Numbers.{numbers_to};
 ghost use Rattle.rank_tables.specs.Instance.{pair_count};
-ghost use Rattle.rank_tables.specs.Tables.{IsPairNo};
-ghost use Rattle.stability_audit.specs.Tallies.{AreTables, IsClear, both_want, lesser};
-ghost use Rattle.stability_audit.specs.Verdict.{ArePairs, numbers_of, resident_twice, hospital_over, verdict_of};
+ghost use Rattle.rank_tables.specs.Tables.{IsPairNo, numbers_of};
+ghost use Rattle.stability_audit.specs.Tallies.{AreTallied, IsClear, both_want, lesser};
+ghost use Rattle.stability_audit.specs.Verdict.{ArePairs, resident_twice, hospital_over, verdict_of};
 
 use crate::Verdict;
 use crate::tally::Tally;
@@ -37,8 +37,8 @@ impl Tallies {
     // Takes the pairs into the tables.
     pub fn mark(&mut self, inst: &Instance, pairs: &[PairNo])
         requires pairs { ArePairs inst.now (numbers_of pairs.now) }
-        requires clear { AreTables inst.now [] self.old.residents.items self.old.hospitals.items }
-        ensures { AreTables inst.now (numbers_of pairs.now) self.new.residents.items self.new.hospitals.items }
+        requires clear { AreTallied inst.now [] self.old.residents.items self.old.hospitals.items }
+        ensures { AreTallied inst.now (numbers_of pairs.now) self.new.residents.items self.new.hospitals.items }
     {
         for pair in pairs {
             let r = inst.resident_of(*pair) as usize;
@@ -51,8 +51,8 @@ impl Tallies {
     // Takes the pairs out of the tables.
     pub fn clear(&mut self, inst: &Instance, pairs: &[PairNo])
         requires pairs { ArePairs inst.now (numbers_of pairs.now) }
-        requires marked { AreTables inst.now (numbers_of pairs.now) self.old.residents.items self.old.hospitals.items }
-        ensures { AreTables inst.now [] self.new.residents.items self.new.hospitals.items }
+        requires marked { AreTallied inst.now (numbers_of pairs.now) self.old.residents.items self.old.hospitals.items }
+        ensures { AreTallied inst.now [] self.new.residents.items self.new.hospitals.items }
     {
         for pair in pairs {
             self.residents[inst.resident_of(*pair) as usize] = Tally::NO_PAIR;
@@ -63,7 +63,7 @@ impl Tallies {
     // The least resident in two of the pairs.
     fn resident_twice(&self, inst: &Instance, pairs: &[PairNo]) -> Option<u32>
         requires pairs { ArePairs inst.now (numbers_of pairs.now) }
-        requires marked { AreTables inst.now (numbers_of pairs.now) self.now.residents.items self.now.hospitals.items }
+        requires marked { AreTallied inst.now (numbers_of pairs.now) self.now.residents.items self.now.hospitals.items }
         ensures { result ≡ resident_twice inst.now (numbers_of pairs.now) }
     {
         let mut least = None;
@@ -79,13 +79,13 @@ impl Tallies {
     // The least hospital in more of the pairs than it has posts.
     fn hospital_over(&self, inst: &Instance, pairs: &[PairNo]) -> Option<u32>
         requires pairs { ArePairs inst.now (numbers_of pairs.now) }
-        requires marked { AreTables inst.now (numbers_of pairs.now) self.now.residents.items self.now.hospitals.items }
+        requires marked { AreTallied inst.now (numbers_of pairs.now) self.now.residents.items self.now.hospitals.items }
         ensures { result ≡ hospital_over inst.now (numbers_of pairs.now) }
     {
         let mut least = None;
         for pair in pairs {
             let h = inst.hospital_of(*pair);
-            if self.hospitals[h as usize].count > inst.capacity(h) {
+            if self.hospitals[h as usize].count > inst.capacity(h) as usize {
                 least = Some(lesser(least, h));
             }
         }
@@ -117,13 +117,13 @@ impl Tallies {
         let r = inst.resident_of(pair);
         let h = inst.hospital_of(pair);
         self.residents[r as usize].wants(1, inst.rank_by_resident(pair))
-            && self.hospitals[h as usize].wants(inst.capacity(h), inst.rank_by_hospital(pair))
+            && self.hospitals[h as usize].wants(inst.capacity(h) as usize, inst.rank_by_hospital(pair))
     }
 
     // What the pairs in the tables are.
     pub fn verdict(&self, inst: &Instance, pairs: &[PairNo]) -> Verdict
         requires pairs { ArePairs inst.now (numbers_of pairs.now) }
-        requires marked { AreTables inst.now (numbers_of pairs.now) self.now.residents.items self.now.hospitals.items }
+        requires marked { AreTallied inst.now (numbers_of pairs.now) self.now.residents.items self.now.hospitals.items }
         ensures { result ≡ verdict_of inst.now (numbers_of pairs.now) }
     {
         if let Some(r) = self.resident_twice(inst, pairs) {

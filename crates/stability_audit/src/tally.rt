@@ -5,7 +5,7 @@ ghost use Rattle.stability_audit.specs.Tallies.{one_more, wants};
 // How many pairs it is in, and the worst rank that it gives in them, 0 where it is in none.
 #[derive(Clone, Copy)]
 pub struct Tally {
-    pub count: u32,
+    pub count: usize,
     pub worst: u32,
 }
 
@@ -14,7 +14,7 @@ impl Tally {
 
     // With one pair more, in which it gives this rank.
     pub fn one_more(self, rank: u32) -> Tally
-        requires { self.count + 1 < 2 ^ 32 }
+        requires { self.count + 1 < 2 ^ 64 }
         ensures { result ≡ one_more self rank }
     {
         Tally {
@@ -24,7 +24,7 @@ impl Tally {
     }
 
     // Whether it would take a pair of this rank: it has a free place, or a pair of a worse rank.
-    pub fn wants(self, places: u32, rank: u32) -> bool
+    pub fn wants(self, places: usize, rank: u32) -> bool
         ensures { result ≡ wants self places rank }
     {
         self.count < places || rank < self.worst

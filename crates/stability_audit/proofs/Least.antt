@@ -1,5 +1,5 @@
 -- The first number that passes a test.
-use Rattle.std.proofs.Common.{◌≡◌, ℕ, zero, suc, ◌+◌, ◌-◌, ◌<◌, ◌≤◌, min, ◌⊎◌, Bool, true, false, cond, not, ◌&&◌, ◌||◌, ◌==◌, List, [], ◌∷◌, ◌++◌, length, get_or, take, Option, Some, None, inl, inr, refl, sym, ap, ◌∙◌, subst, arith}
+use Rattle.std.proofs.Common.{◌≡◌, ℕ, zero, suc, ◌+◌, ◌-◌, ◌<◌, ◌≤◌, min, Bool, true, false, cond, not, ◌&&◌, ◌||◌, ◌==◌, List, [], ◌∷◌, ◌++◌, length, get_or, take, Option, Some, None, inl, inr, refl, sym, ap, ◌∙◌, subst, arith}
 use Rattle.std.specs.List.{find, list_any, list_all}
 use Rattle.std.specs.Option.{option_or}
 use Rattle.std.proofs.lemmas.List.Folds.{find-append, list_any-append}
@@ -56,10 +56,10 @@ pub first_to : (t : ℕ → Bool) (n p : ℕ) → 1 ≤ p → p ≤ n → find t
 first_to t zero p l m h e = absurd (omega arith)
 first_to t (suc n) p l m h e = elim (cases_lt n p) [
   | inl last ↦
-    let same : p ≡ suc n = omega arith in
-    let earlier : p - 1 ≡ n = omega arith in
-    let before : find t (numbers_to n) ≡ None = subst (λ (k : ℕ). find t (numbers_to k) ≡ None) earlier h in
-    found_last t (numbers_to n) (suc n) before (ap t (sym same) ∙ e) ∙ ap Some (sym same)
+      let same : p ≡ suc n = omega arith in
+      let earlier : p - 1 ≡ n = omega arith in
+      let before : find t (numbers_to n) ≡ None = subst (λ (k : ℕ). find t (numbers_to k) ≡ None) earlier h in
+      found_last t (numbers_to n) (suc n) before (ap t (sym same) ∙ e) ∙ ap Some (sym same)
   | inr more ↦ found_more t (numbers_to n) (suc n) p (first_to t n p l more h e)
 ]
 
@@ -74,8 +74,8 @@ first_below t zero k l h e = absurd (omega arith)
 first_below t (suc n) k l h e = elim (cases_lt k n) [
   | inl less ↦ found_more t (below n) n k (first_below t n k less h e)
   | inr last ↦
-    let same : k ≡ n = omega arith in
-    found_last t (below n) n (none_below t n (λ j m. h j (omega arith))) (ap t (sym same) ∙ e) ∙ ap Some (sym same)
+      let same : k ≡ n = omega arith in
+      found_last t (below n) n (none_below t n (λ j m. h j (omega arith))) (ap t (sym same) ∙ e) ∙ ap Some (sym same)
 ]
 
 -- ---- the least number that passes, if there is one
@@ -99,21 +99,23 @@ least_same t u None h s = λ k. sym (s k) ∙ h k
 least_same t u (Some least) h s = (sym (s least) ∙ h.0, λ k e. h.1 k (s k ∙ e))
 
 least_or : (t u : ℕ → Bool) (o : Option ℕ) (x : ℕ) → IsLeast t o → ((k : ℕ) → u k ≡ (t k || x == k)) → IsLeast u (Some (lesser o x))
-least_or t u None x h s =
-    (s x ∙ or_right (t x) (x == x) (eq-eqb x x refl),
-     λ k e. elim (or_cases (t k) (x == k) (sym (s k) ∙ e)) [
-       | inl old ↦ let no : t k ≡ false = h k in absurd (true≢false (sym old ∙ no))
-       | inr new ↦ let is : x ≡ k = eqb-true x k new in omega arith
-     ])
-least_or t u (Some least) x h s =
-    (elim (cases_lt least x) [
-       | inl old ↦ let is : min least x ≡ least = omega arith in ap u is ∙ s least ∙ or_left (t least) (x == least) h.0
-       | inr new ↦ let is : min least x ≡ x = omega arith in ap u is ∙ s x ∙ or_right (t x) (x == x) (eq-eqb x x refl)
-     ],
-     λ k e. elim (or_cases (t k) (x == k) (sym (s k) ∙ e)) [
-       | inl old ↦ let l : least ≤ k = h.1 k old in omega arith
-       | inr new ↦ let is : x ≡ k = eqb-true x k new in omega arith
-     ])
+least_or t u None x h s = (
+  s x ∙ or_right (t x) (x == x) (eq-eqb x x refl),
+  λ k e. elim (or_cases (t k) (x == k) (sym (s k) ∙ e)) [
+    | inl old ↦ let no : t k ≡ false = h k in absurd (true≢false (sym old ∙ no))
+    | inr new ↦ let is : x ≡ k = eqb-true x k new in omega arith
+  ],
+)
+least_or t u (Some least) x h s = (
+  elim (cases_lt least x) [
+    | inl old ↦ let is : min least x ≡ least = omega arith in ap u is ∙ s least ∙ or_left (t least) (x == least) h.0
+    | inr new ↦ let is : min least x ≡ x = omega arith in ap u is ∙ s x ∙ or_right (t x) (x == x) (eq-eqb x x refl)
+  ],
+  λ k e. elim (or_cases (t k) (x == k) (sym (s k) ∙ e)) [
+    | inl old ↦ let l : least ≤ k = h.1 k old in omega arith
+    | inr new ↦ let is : x ≡ k = eqb-true x k new in omega arith
+  ],
+)
 
 -- ---- the least owner that passes, among the owners of listed pairs
 
@@ -137,15 +139,15 @@ pub owns_more : (t : ℕ → Bool) (owner : ℕ → ℕ) (m : List ℕ) (q : ℕ
     IsLeast (owns t owner (m ++ q ∷ [])) (Some (lesser o (owner q)))
 owns_more t owner m q o h e =
     least_or (owns t owner m) (owns t owner (m ++ q ∷ [])) o (owner q) h (λ k.
-      ap (λ b. t k && b) (list_any-append (λ p. owner p == k) m (q ∷ []))
-      ∙ with_new (t k) (list_any (λ p. owner p == k) m) (owner q == k) (λ is. subst (λ (j : ℕ). t j ≡ true) (eqb-true (owner q) k is) e))
+    ap (λ b. t k && b) (list_any-append (λ p. owner p == k) m (q ∷ []))
+    ∙ with_new (t k) (list_any (λ p. owner p == k) m) (owner q == k) (λ is. subst (λ (j : ℕ). t j ≡ true) (eqb-true (owner q) k is) e))
 
 pub owns_no_more : (t : ℕ → Bool) (owner : ℕ → ℕ) (m : List ℕ) (q : ℕ) (o : Option ℕ) → IsLeast (owns t owner m) o → t (owner q) ≡ false →
     IsLeast (owns t owner (m ++ q ∷ [])) o
 owns_no_more t owner m q o h e =
     least_same (owns t owner m) (owns t owner (m ++ q ∷ [])) o h (λ k.
-      without_new (t k) (list_any (λ p. owner p == k) m) (owner q == k) (λ is. subst (λ (j : ℕ). t j ≡ false) (eqb-true (owner q) k is) e)
-      ∙ sym (ap (λ b. t k && b) (list_any-append (λ p. owner p == k) m (q ∷ []))))
+    without_new (t k) (list_any (λ p. owner p == k) m) (owner q == k) (λ is. subst (λ (j : ℕ). t j ≡ false) (eqb-true (owner q) k is) e)
+    ∙ sym (ap (λ b. t k && b) (list_any-append (λ p. owner p == k) m (q ∷ []))))
 
 -- with the pair at place i, whose owner is k
 pub least_next : (t : ℕ → Bool) (owner : ℕ → ℕ) (pairs : List PairNo) (i : ℕ) (d : PairNo) (k : ℕ) (o next : Option ℕ) →

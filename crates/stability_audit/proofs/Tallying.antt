@@ -1,9 +1,9 @@
 -- What the tables hold, and how they change by a pair.
-use Rattle.std.proofs.Common.{◌≡◌, ℕ, zero, suc, ◌+◌, ◌<◌, ◌≤◌, max, Bool, true, false, cond, not, ◌&&◌, ◌||◌, ◌==◌, nat_lt, if◌then◌else◌, List, [], ◌∷◌, ◌++◌, length, get_or, set, take, drop, count_by, inl, inr, refl, sym, ap, ap₂, ◌∙◌, subst, arith, get_or-set_same, get_or-set_other}
+use Rattle.std.proofs.Common.{◌≡◌, ℕ, ◌+◌, ◌<◌, ◌≤◌, max, Bool, true, false, cond, not, ◌&&◌, ◌||◌, ◌==◌, nat_lt, if◌then◌else◌, List, [], ◌∷◌, ◌++◌, length, get_or, set, take, drop, count_by, inl, inr, refl, sym, ap, ap₂, ◌∙◌, subst, arith, get_or-set_same, get_or-set_other}
 use Rattle.std.specs.List.{list_any, list_all}
 use Rattle.std.proofs.lemmas.List.{length-set, get_or_past}
 use Rattle.std.proofs.lemmas.List.Sums.{sum_by-cons}
-use Rattle.std.proofs.lemmas.Bool.{true≢false, cases_lt, cases_Bool, cond-true, cond-false, eqb-true, eqb-false, eq-eqb, or_parts, or_from, le-ltb}
+use Rattle.std.proofs.lemmas.Bool.{true≢false, cases_lt, cases_Bool, cond-true, cond-false, eqb-true, eqb-false, or_parts, or_from, le-ltb}
 use Rattle.std.proofs.lemmas.Bool.Decides.{nat_tests}
 use Rattle.std.proofs.lemmas.List.{get_or_read}
 use Rattle.std.proofs.lemmas.List.Sums.{count_by-le-length}
@@ -98,14 +98,14 @@ tallied_more owner rank m count table q tally h l e = record {
   size = length-set table (owner q) tally ∙ h.size;
   each = λ k less. elim (cases_Bool (owner q == k)) [
     | inl here ↦
-      let is : owner q ≡ k = eqb-true (owner q) k here in
-      let within : owner q < length table = omega (arith, h.size) in
-      ap (λ j. get_or (set table (owner q) tally) j no_pair) (sym is)
-      ∙ get_or-set_same table (owner q) tally no_pair within ∙ e ∙ ap (λ t. one_more t (rank q)) (ap (λ j. get_or table j no_pair) is ∙ h.each k less)
-      ∙ sym (tally_push owner rank m q k ∙ cond-true (owner q == k) _ _ here)
+        let is : owner q ≡ k = eqb-true (owner q) k here in
+        let within : owner q < length table = omega (arith, h.size) in
+        ap (λ j. get_or (set table (owner q) tally) j no_pair) (sym is)
+        ∙ get_or-set_same table (owner q) tally no_pair within ∙ e ∙ ap (λ t. one_more t (rank q)) (ap (λ j. get_or table j no_pair) is ∙ h.each k less)
+        ∙ sym (tally_push owner rank m q k ∙ cond-true (owner q == k) _ _ here)
     | inr other ↦
-      get_or-set_other table (owner q) k tally no_pair (λ is. eqb-false (owner q) k other (sym is))
-      ∙ h.each k less ∙ sym (tally_push owner rank m q k ∙ cond-false (owner q == k) _ _ other)
+        get_or-set_other table (owner q) k tally no_pair (λ is. eqb-false (owner q) k other (sym is))
+        ∙ h.each k less ∙ sym (tally_push owner rank m q k ∙ cond-false (owner q == k) _ _ other)
   ];
 }
 
@@ -118,7 +118,7 @@ tallied_next owner rank pairs i d count table k x old tally h l less e f read ne
     let q = (get_or pairs i d).0 in
     let within : k < length table = omega (arith, h.size) in
     let is : tally ≡ one_more (get_or table (owner q) no_pair) (rank q) =
-      new ∙ ap₂ one_more (get_or_read table k old within read no_pair ∙ ap (λ j. get_or table j no_pair) e) f in
+    new ∙ ap₂ one_more (get_or_read table k old within read no_pair ∙ ap (λ j. get_or table j no_pair) e) f in
     subst (λ (m : List ℕ). IsTallied owner rank m count (set table k tally)) (sym (numbers_more pairs i d l))
     (subst (λ (j : ℕ). IsTallied owner rank (numbers_of (take i pairs) ++ q ∷ []) count (set table j tally)) (sym e)
     (tallied_more owner rank (numbers_of (take i pairs)) count table q tally h (subst (λ (j : ℕ). j < count) e less) is))
@@ -133,8 +133,12 @@ read_count owner rank m count table k tally h l read =
 pub read_small : (owner rank : ℕ → ℕ) (pairs : List PairNo) (i count : ℕ) (table : List Tally) (k : ℕ) (tally : Tally) →
     IsTallied owner rank (numbers_of (take i pairs)) count table → k < count → tally ≡ get_or table k tally → tally.count ≤ i
 read_small owner rank pairs i count table k tally h l read =
-    omega (arith, read_count owner rank (numbers_of (take i pairs)) count table k tally h l read,
-      count_by-le-length (λ q. owner q == k) (numbers_of (take i pairs)), numbers_few pairs i)
+    omega (
+      arith,
+      read_count owner rank (numbers_of (take i pairs)) count table k tally h l read,
+      count_by-le-length (λ q. owner q == k) (numbers_of (take i pairs)),
+      numbers_few pairs i,
+    )
 
 -- whoever has none of the pairs m has a clear tally
 pub record IsClearBut (owner : ℕ → ℕ) (m : List ℕ) (count : ℕ) (table : List Tally) : Type 0 where
@@ -156,11 +160,11 @@ clear_but_less owner q m count table l h = record {
   size = length-set table (owner q) no_pair ∙ h.size;
   each = λ k none. elim (cases_Bool (owner q == k)) [
     | inl here ↦
-      let within : owner q < length table = omega (arith, h.size) in
-      ap (λ j. get_or (set table (owner q) no_pair) j no_pair) (sym (eqb-true (owner q) k here)) ∙ get_or-set_same table (owner q) no_pair no_pair within
+        let within : owner q < length table = omega (arith, h.size) in
+        ap (λ j. get_or (set table (owner q) no_pair) j no_pair) (sym (eqb-true (owner q) k here)) ∙ get_or-set_same table (owner q) no_pair no_pair within
     | inr other ↦
-      get_or-set_other table (owner q) k no_pair no_pair (λ is. eqb-false (owner q) k other (sym is))
-      ∙ h.each k (or_from (owner q == k) (list_any (λ p. owner p == k) m) other none)
+        get_or-set_other table (owner q) k no_pair no_pair (λ is. eqb-false (owner q) k other (sym is))
+        ∙ h.each k (or_from (owner q == k) (list_any (λ p. owner p == k) m) other none)
   ];
 }
 

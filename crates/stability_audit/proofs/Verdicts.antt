@@ -1,20 +1,20 @@
 -- What the verdict says, and how the tables give it.
-use Rattle.std.proofs.Common.{◌≡◌, ℕ, zero, suc, ◌+◌, ◌<◌, ◌≤◌, ◌↔◌, Bool, true, false, cond, not, ◌&&◌, ◌||◌, ◌==◌, nat_lt, nat_le, IsTrue, List, [], ◌∷◌, ◌++◌, length, map, get_or, take, count_by, Option, Some, None, inl, inr, refl, sym, ap, ap₂, ◌∙◌, subst, arith}
+use Rattle.std.proofs.Common.{◌≡◌, ℕ, ◌<◌, ◌≤◌, ◌↔◌, Bool, true, false, not, ◌&&◌, ◌||◌, ◌==◌, nat_lt, nat_le, IsTrue, List, length, get_or, take, count_by, Option, Some, None, refl, sym, ap, ap₂, ◌∙◌, subst, arith}
 use Rattle.std.specs.List.{list_any, list_all, find}
 use Rattle.std.proofs.lemmas.Bool.Decides.{nat_tests}
-use Rattle.std.proofs.lemmas.Bool.{true≢false, cases_Bool, or_right, not-true, not_from_false, and_parts, and_from, or_left, eq-eqb, eqb-true, leb-true, leb-false, le-leb, lt-leb, ltb-true, ltb-false, le-ltb, lt-ltb, false_from_ne_true}
+use Rattle.std.proofs.lemmas.Bool.{true≢false, not-true, not_from_false, and_parts, and_from, eqb-true, leb-true, leb-false, le-leb, lt-leb, ltb-true, ltb-false, le-ltb, lt-ltb, false_from_ne_true}
 use Rattle.hrt_base.specs.declared.numbered.PairNo.{PairNo}
 use Rattle.stability_audit.proofs.Pairs.{pair_number, all_taken}
-use Rattle.rank_tables.specs.Numbers.{below, numbers_to, is_in, is_distinct}
-use Rattle.rank_tables.specs.Instance.{Lists, pair_count, pair_at, capacity_of, rank_by_resident, rank_by_hospital}
+use Rattle.rank_tables.specs.Numbers.{below, numbers_to, is_in}
+use Rattle.rank_tables.specs.Instance.{Lists, pair_count, capacity_of, rank_by_resident, rank_by_hospital}
 use Rattle.rank_tables.specs.Stability.{is_matching, is_weakly_stable, resident_wants, hospital_wants, blocks, uses_of_resident, uses_of_hospital}
 use Rattle.rank_tables.specs.Tables.{IsPairNo, numbers_of}
 use Rattle.rank_tables.proofs.Numbers.{all_at, all_from, is_in-below, is_in-numbers_to, kinds_within, element, list_any-count}
-use Rattle.rank_tables.proofs.Membership.{Matching, matching_parts}
+use Rattle.rank_tables.proofs.Membership.{matching_parts}
 use Rattle.rank_tables.proofs.PairFacts.{pair_at-acceptable}
 use Rattle.stability_audit.specs.declared.tally.Tally.{Tally}
-use Rattle.stability_audit.specs.declared.verdict.Verdict.TheVariants.{Stable, ResidentTwice, OverCapacity, Blocked}
-use Rattle.stability_audit.specs.Tallies.{no_pair, wants, resident_of, hospital_of, tally_of, AreTallied, both_want}
+use Rattle.stability_audit.specs.declared.verdict.Verdict.TheVariants.{Stable}
+use Rattle.stability_audit.specs.Tallies.{no_pair, wants, resident_of, hospital_of, AreTallied, both_want}
 use Rattle.stability_audit.specs.Verdict.{ArePairs, resident_twice, hospital_over, blocking_pair, first_reason, verdict_of}
 use Rattle.stability_audit.proofs.Tallying.{tally_count, any_worse, all_worse}
 use Rattle.stability_audit.proofs.Least.{none_passes, none_found, find_same, IsLeast, owns, least_found}
@@ -60,9 +60,9 @@ from_stable lists m e =
     let parts = matching_parts lists m both.0 in
     stable_of lists m
     (none_found _ (below (length lists.residents)) (all_from _ (below (length lists.residents)) (λ r i.
-      not_from_false _ (lt-leb 2 (uses_of_resident lists m r) (let one = kinds_within (resident_of lists) (λ k. 1) m parts.residents r in omega (arith, one))))))
+    not_from_false _ (lt-leb 2 (uses_of_resident lists m r) (let one = kinds_within (resident_of lists) (λ k. 1) m parts.residents r in omega (arith, one))))))
     (none_found _ (below (length lists.hospitals)) (all_from _ (below (length lists.hospitals)) (λ h i.
-      not_from_false _ (le-ltb _ _ (kinds_within (hospital_of lists) (capacity_of lists) m parts.hospitals h)))))
+    not_from_false _ (le-ltb _ _ (kinds_within (hospital_of lists) (capacity_of lists) m parts.hospitals h)))))
     (none_found (blocks lists m) (numbers_to (pair_count lists)) both.1)
 
 pub stable_iff : (lists : Lists) (m : List ℕ) → ArePairs lists m → (verdict_of lists m ≡ Stable) ↔ IsTrue (is_weakly_stable lists m)
@@ -124,7 +124,7 @@ outside false wanted wanting h = refl
 
 not_own : (lists : Lists) (m : List ℕ) (p : ℕ) → is_in p m ≡ true → resident_wants lists m p ≡ false
 not_own lists m p i = false_from_ne_true (resident_wants lists m p) (λ e.
-  true≢false (sym (all_at _ m p e i) ∙ not_better (resident_of lists p) (rank_by_resident lists p)))
+    true≢false (sym (all_at _ m p e i) ∙ not_better (resident_of lists p) (rank_by_resident lists p)))
   where
     not_better : (r x : ℕ) → (not (r == r) || nat_lt x x) ≡ false
     not_better r x = grind (arith, nat_tests)
@@ -136,20 +136,20 @@ both_want_blocks lists m residents hospitals p tables none number =
     let r = resident_of lists p in
     let h = hospital_of lists p in
     let of_resident : wants (get_or residents r no_pair) 1 (rank_by_resident lists p) ≡ resident_wants lists m p =
-      ap (λ t. wants t 1 (rank_by_resident lists p)) (tables.of_residents.each r declared.resident_declared)
-      ∙ sym (all_worse (resident_of lists) (rank_by_resident lists) m r (rank_by_resident lists p) (once lists m r none declared.resident_declared)) in
+    ap (λ t. wants t 1 (rank_by_resident lists p)) (tables.of_residents.each r declared.resident_declared)
+    ∙ sym (all_worse (resident_of lists) (rank_by_resident lists) m r (rank_by_resident lists p) (once lists m r none declared.resident_declared)) in
     let of_hospital : wants (get_or hospitals h no_pair) (capacity_of lists h) (rank_by_hospital lists p) ≡ hospital_wants lists m p =
-      ap (λ t. wants t (capacity_of lists h) (rank_by_hospital lists p)) (tables.of_hospitals.each h declared.hospital_declared)
-      ∙ ap₂ ◌||◌ (ap (λ u. nat_lt u (capacity_of lists h)) (tally_count (hospital_of lists) (rank_by_hospital lists) m h))
-      (sym (any_worse (hospital_of lists) (rank_by_hospital lists) m h (rank_by_hospital lists p))) in
+    ap (λ t. wants t (capacity_of lists h) (rank_by_hospital lists p)) (tables.of_hospitals.each h declared.hospital_declared)
+    ∙ ap₂ ◌||◌ (ap (λ u. nat_lt u (capacity_of lists h)) (tally_count (hospital_of lists) (rank_by_hospital lists) m h))
+    (sym (any_worse (hospital_of lists) (rank_by_hospital lists) m h (rank_by_hospital lists p))) in
     ap₂ ◌&&◌ of_resident of_hospital ∙ outside (is_in p m) (resident_wants lists m p) (hospital_wants lists m p) (not_own lists m p)
 
 pub wanted_blocks : (lists : Lists) (m : List ℕ) (residents hospitals : List Tally) → AreTallied lists m residents hospitals →
     resident_twice lists m ≡ None → find (both_want lists residents hospitals) (numbers_to (pair_count lists)) ≡ blocking_pair lists m
 wanted_blocks lists m residents hospitals tables none =
     find_same _ _ (numbers_to (pair_count lists)) (λ p i.
-      let both = and_parts (nat_le 1 p) (nat_le p (pair_count lists)) (sym (is_in-numbers_to (pair_count lists) p) ∙ i) in
-      both_want_blocks lists m residents hospitals p tables none (leb-true 1 p both.0, leb-true p (pair_count lists) both.1))
+    let both = and_parts (nat_le 1 p) (nat_le p (pair_count lists)) (sym (is_in-numbers_to (pair_count lists) p) ∙ i) in
+    both_want_blocks lists m residents hospitals p tables none (leb-true 1 p both.0, leb-true p (pair_count lists) both.1))
 
 -- ---- the third reason, where there is neither of the first two
 

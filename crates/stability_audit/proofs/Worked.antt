@@ -47,6 +47,16 @@ strict-stable = refl
 pub strict-blocked : verdict_of strict (2 ∷ []) ≡ Blocked (record { 0 = 1 })
 strict-blocked = refl
 
+-- resident a: (x y) / hospital x 1: a / hospital y 1: a / so pair 1 is a x, pair 2 is a y
+abbrev like : Lists
+like = record {
+  residents = record { name = 97 ∷ []; groups = (0 ∷ 1 ∷ []) ∷ [] } ∷ [];
+  hospitals = record { name = 120 ∷ []; capacity = 1; groups = (0 ∷ []) ∷ [] } ∷ record { name = 121 ∷ []; capacity = 1; groups = (0 ∷ []) ∷ [] } ∷ [];
+}
+
+pub like-stable : verdict_of like (2 ∷ []) ≡ Stable
+like-stable = refl
+
 -- resident a: x / hospital x 0: a
 abbrev no_post : Lists
 no_post = record {

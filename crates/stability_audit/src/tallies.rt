@@ -114,10 +114,11 @@ impl Tallies {
         requires hospitals { length self.now.hospitals.items ≡ length inst.now.hospitals }
         ensures { result ≡ both_want inst.now self.now.residents.items self.now.hospitals.items pair.0 }
     {
-        let r = inst.resident_of(pair);
+        let r = inst.resident_of(pair) as usize;
         let h = inst.hospital_of(pair);
-        self.residents[r as usize].wants(1, inst.rank_by_resident(pair))
-            && self.hospitals[h as usize].wants(inst.capacity(h) as usize, inst.rank_by_hospital(pair))
+        let posts = inst.capacity(h) as usize;
+        self.residents[r].wants(1, inst.rank_by_resident(pair))
+            && self.hospitals[h as usize].wants(posts, inst.rank_by_hospital(pair))
     }
 
     // What the pairs in the tables are.

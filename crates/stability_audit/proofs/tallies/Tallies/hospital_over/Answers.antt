@@ -20,14 +20,14 @@ loop-pair-preserved c =
     let m = numbers_of c.args.pairs.now in
     let h = c.hospital_of-h.result in
     let count = read_count (hospital_of i) (rank_by_hospital i) m (length i.hospitals) c.args.self.now.hospitals.items h c.index.result.now
-      c.requires.marked.of_hospitals c.hospital_of-h.ensures.declared c.index.ensures in
+    c.requires.marked.of_hospitals c.hospital_of-h.ensures.declared c.index.ensures in
     elim c.if-index-capacity.branch [
       | then-index-capacity w ↦ least_next (λ k. nat_lt (capacity_of i k) (uses_of_hospital i m k)) (hospital_of i) c.args.pairs.now c.loop-pair.pair-index (record { 0 = 0 }) h
-        c.loop-pair.least c.if-index-capacity.least c.loop-pair.invariant (omega arith) c.hospital_of-h.ensures.value
-        (lt-ltb (capacity_of i h) (uses_of_hospital i m h) (omega (arith, count, c.capacity.ensures.value, w.if-index-capacity.true))) (w.least-is ∙ ap Some w.lesser.ensures)
+          c.loop-pair.least c.if-index-capacity.least c.loop-pair.invariant (omega arith) c.hospital_of-h.ensures.value
+          (lt-ltb (capacity_of i h) (uses_of_hospital i m h) (omega (arith, count, c.capacity.ensures.value, w.if-index-capacity.true))) (w.least-is ∙ ap Some w.lesser.ensures)
       | else-index-capacity w ↦ least_still (λ k. nat_lt (capacity_of i k) (uses_of_hospital i m k)) (hospital_of i) c.args.pairs.now c.loop-pair.pair-index (record { 0 = 0 }) h
-        c.loop-pair.least c.if-index-capacity.least c.loop-pair.invariant (omega arith) c.hospital_of-h.ensures.value
-        (le-ltb (capacity_of i h) (uses_of_hospital i m h) (omega (arith, count, c.capacity.ensures.value, w.if-index-capacity.false))) w.least-is
+          c.loop-pair.least c.if-index-capacity.least c.loop-pair.invariant (omega arith) c.hospital_of-h.ensures.value
+          (le-ltb (capacity_of i h) (uses_of_hospital i m h) (omega (arith, count, c.capacity.ensures.value, w.if-index-capacity.false))) w.least-is
     ]
 
 pub returns : goal.returns

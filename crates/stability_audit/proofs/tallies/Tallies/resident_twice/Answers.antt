@@ -20,14 +20,14 @@ loop-pair-preserved c =
     let m = numbers_of c.args.pairs.now in
     let r = c.resident_of-r.result in
     let count = read_count (resident_of i) (rank_by_resident i) m (length i.residents) c.args.self.now.residents.items r c.index.result.now
-      c.requires.marked.of_residents c.resident_of-r.ensures.declared c.index.ensures in
+    c.requires.marked.of_residents c.resident_of-r.ensures.declared c.index.ensures in
     elim c.if-index-gt1.branch [
       | then-index-gt1 w ↦ least_next (λ k. nat_le 2 (uses_of_resident i m k)) (resident_of i) c.args.pairs.now c.loop-pair.pair-index (record { 0 = 0 }) r
-        c.loop-pair.least c.if-index-gt1.least c.loop-pair.invariant (omega arith) c.resident_of-r.ensures.value
-        (le-leb 2 (uses_of_resident i m r) (omega (arith, count, w.if-index-gt1.true))) (w.least-is ∙ ap Some w.lesser.ensures)
+          c.loop-pair.least c.if-index-gt1.least c.loop-pair.invariant (omega arith) c.resident_of-r.ensures.value
+          (le-leb 2 (uses_of_resident i m r) (omega (arith, count, w.if-index-gt1.true))) (w.least-is ∙ ap Some w.lesser.ensures)
       | else-index-gt1 w ↦ least_still (λ k. nat_le 2 (uses_of_resident i m k)) (resident_of i) c.args.pairs.now c.loop-pair.pair-index (record { 0 = 0 }) r
-        c.loop-pair.least c.if-index-gt1.least c.loop-pair.invariant (omega arith) c.resident_of-r.ensures.value
-        (lt-leb 2 (uses_of_resident i m r) (omega (arith, count, w.if-index-gt1.false))) w.least-is
+          c.loop-pair.least c.if-index-gt1.least c.loop-pair.invariant (omega arith) c.resident_of-r.ensures.value
+          (lt-leb 2 (uses_of_resident i m r) (omega (arith, count, w.if-index-gt1.false))) w.least-is
     ]
 
 pub returns : goal.returns

@@ -1,5 +1,5 @@
 -- No pair so far passes.
-use Rattle.std.proofs.Common.{◌≡◌, ◌-◌, ◌≤◌, None}
+use Rattle.std.proofs.Common.{◌≡◌, ◌-◌, None}
 use Rattle.std.specs.List.{find}
 use Rattle.rank_tables.specs.Numbers.{numbers_to}
 use Rattle.stability_audit.specs.Tallies.{both_want}

@@ -1,0 +1,5 @@
+mod Least
+mod Pairs
+mod Tallying
+mod Verdicts
+mod Worked

@@ -11,3 +11,5 @@ pub mod Accepted
 pub mod Unknowns
 pub mod WellFormed
 pub mod AcceptedLists
+pub mod Flat
+pub mod WrittenLines

@@ -1,5 +1,6 @@
 pub mod Refusal
 pub mod Spelling
+pub mod Written
 pub mod Kinds
 pub mod Stages
 pub mod Survey

@@ -13,3 +13,5 @@ pub mod WellFormed
 pub mod AcceptedLists
 pub mod Flat
 pub mod WrittenLines
+pub mod PairKinds
+pub mod NameKeys

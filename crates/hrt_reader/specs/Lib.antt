@@ -5,4 +5,6 @@ pub mod Kinds
 pub mod Stages
 pub mod Survey
 pub mod Answer
+pub mod PairsText
+pub mod PairsAnswer
 pub mod Numbered

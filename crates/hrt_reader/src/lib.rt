@@ -1,0 +1,26 @@
+//! The text of an instance.
+#![tactic(auto)]
+
+mod declarations;
+mod drafted;
+mod first_pass;
+mod law;
+mod numbered;
+mod pair_forms;
+mod pair_lines;
+mod pair_reading;
+mod pair_refusals;
+mod pair_writing;
+mod pieces;
+mod reading;
+mod refusals;
+mod stages;
+mod writing;
+
+pub use law::spelling_is_read_back;
+pub use pair_reading::read_pairs;
+pub use pair_refusals::{PairsKind, PairsRefusal};
+pub use pair_writing::write_pairs;
+pub use reading::read_instance;
+pub use refusals::{LimitKind, ReadKind, ReadRefusal};
+pub use writing::write_instance;

@@ -1,0 +1,6 @@
+pub mod Refusal
+pub mod Spelling
+pub mod Kinds
+pub mod Stages
+pub mod Survey
+pub mod Numbered

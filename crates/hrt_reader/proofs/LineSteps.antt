@@ -6,14 +6,14 @@ use Rattle.std.proofs.lemmas.Bool.{and_parts, and_from, and_left, and_right, or_
 use Rattle.std.proofs.lemmas.List.{append-nil, map-append}
 use Rattle.std.proofs.lemmas.List.Elements.{filter_map-append}
 use Rattle.std.proofs.lemmas.List.Folds.{list_any-append, list_all-append}
-use Rattle.hrt_reader.specs.declared.declarations.ReadKind.{ReadKind}
+use Rattle.hrt_reader.specs.declared.refusals.Flaw.{Flaw}
 use Rattle.hrt_reader.specs.declared.stages.Stage.TheVariants.{Start, Open, Ended}
 use Rattle.hrt_reader.specs.declared.stages.Step.{Step}
 use Rattle.hrt_reader.specs.declared.stages.Step.TheVariants.{Next, Refused}
 use Rattle.hrt_text.specs.Text.{colon, opening, closing, word, Row}
 use Rattle.hrt_text.specs.Grammar.{Form, resident, hospital, finish, other, form_of, is_blank, is_header}
 use Rattle.hrt_reader.specs.Refusal.{ResidentLine, HospitalLine, resident_by, hospital_by, residents_of, hospitals_of, resident_names, hospital_names, all_blank, is_headed, is_finish, is_finished, is_open}
-use Rattle.hrt_reader.specs.Kinds.{number}
+use Rattle.hrt_reader.specs.Kinds.{flaw_number}
 use Rattle.hrt_reader.specs.Stages.{kind_early, kind_there, kind_by_form, StepsTo, StepsBy}
 use Rattle.hrt_text.proofs.Among.{not_true}
 use Rattle.hrt_reader.proofs.RoundTrip.{headed_not_blank}
@@ -148,8 +148,8 @@ pub blank_hospitals : (before : List Row) → hospital_names (before ++ [] ∷ [
 blank_hospitals before = hospitals_push before [] other refl ∙ append-nil (hospital_names before)
 
 -- a line between the header and `end` that isn't `end`
-pub declared_step : (before : List Row) (row : Row) (after : List Row) (form : Form) (kind : Option ReadKind) (is_last : Bool) (made : Step) (rs hs : List (List ℕ))
-    → is_open before ≡ true → is_blank row ≡ false → form ≡ form_of row → is_finish form ≡ false → kind_by_form before form (before ++ row ∷ after) ≡ option_map number kind
+pub declared_step : (before : List Row) (row : Row) (after : List Row) (form : Form) (kind : Option Flaw) (is_last : Bool) (made : Step) (rs hs : List (List ℕ))
+    → is_open before ≡ true → is_blank row ≡ false → form ≡ form_of row → is_finish form ≡ false → kind_by_form before form (before ++ row ∷ after) ≡ option_map flaw_number kind
     → is_last ≡ is_none (slice_get after 0) → StepsBy kind is_last made
     → (kind ≡ None → (resident_names before ++ names_by form ≡ rs) × (hospital_names before ++ hospital_names_by form ≡ hs))
     → StepsTo before row after rs hs made
@@ -166,7 +166,7 @@ declared_step before row after form (Some kind) is_last (Refused found) rs hs h 
       there_open before row after h filled
           ∙ ap (λ (f : Form). with_nine (is_none (slice_get after 0) && is_open (before ++ row ∷ [])) (kind_by_form before f (before ++ row ∷ after))) (sym e)
           ∙ ap (with_nine (is_none (slice_get after 0) && is_open (before ++ row ∷ []))) kinds
-          ∙ ap (λ (b : Bool). with_nine b (Some (number kind))) same
+          ∙ ap (λ (b : Bool). with_nine b (Some (flaw_number kind))) same
           ∙ ap (λ (n : ℕ). Some n) (sym by),
     )
 
@@ -257,6 +257,6 @@ wrong_line before row after h filled form =
     there_open before row after h filled
     ∙ ap (λ (f : Form). with_nine (is_none (slice_get after 0) && is_open (before ++ row ∷ [])) (kind_by_form before f (before ++ row ∷ after))) (sym form)
 
-pub at_none : {P : Type 0} (kind : Option ReadKind) → IfNone kind P → kind ≡ None → P
+pub at_none : {P : Type 0} (kind : Option Flaw) → IfNone kind P → kind ≡ None → P
 at_none None h e = h
 at_none (Some k) h e = absurd cc

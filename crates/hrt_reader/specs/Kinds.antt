@@ -1,7 +1,9 @@
--- The code's kinds by their numbers.
+-- The kinds by their numbers.
 use Rattle.std.specs.Prelude.{ℕ}
-use Rattle.hrt_reader.specs.declared.declarations.ReadKind.{ReadKind}
-use Rattle.hrt_reader.specs.declared.declarations.ReadKind.TheVariants as kind
+use Rattle.hrt_reader.specs.declared.refusals.ReadKind.{ReadKind}
+use Rattle.hrt_reader.specs.declared.refusals.ReadKind.TheVariants as kind
+use Rattle.hrt_reader.specs.declared.refusals.Flaw.{Flaw}
+use Rattle.hrt_reader.specs.declared.refusals.Flaw.TheVariants as flaw
 
 abbrev pub number : ReadKind → ℕ
 number kind.BadHeader = 1
@@ -14,5 +16,8 @@ number kind.NamedTwice = 7
 number kind.BadTie = 8
 number kind.NoEnd = 9
 number kind.AfterEnd = 10
-number kind.TooManyResidents = 11
-number kind.TooManyHospitals = 12
+
+abbrev pub flaw_number : Flaw → ℕ
+flaw_number (flaw.Bad kind) = number kind
+flaw_number flaw.TooManyResidents = 11
+flaw_number flaw.TooManyHospitals = 12

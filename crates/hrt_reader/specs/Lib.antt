@@ -3,4 +3,5 @@ pub mod Spelling
 pub mod Kinds
 pub mod Stages
 pub mod Survey
+pub mod Answer
 pub mod Numbered

@@ -1,14 +1,19 @@
--- What the first pass answers.
-use Rattle.std.specs.Prelude.{◌≡◌, false, Option, Some}
+-- What the two passes over a text answer.
+use Rattle.std.specs.Prelude.{◌≡◌, ℕ, false, Option, Some}
 use Rattle.hrt_text.specs.Grammar.{Form}
-use Rattle.hrt_reader.specs.declared.first_pass.SurveyError.{SurveyError}
-use Rattle.hrt_reader.specs.declared.first_pass.SurveyError.TheVariants.{Bad, Memory}
+use Rattle.hrt_reader.specs.declared.refusals.ReadRefusal.{ReadRefusal}
+use Rattle.hrt_reader.specs.declared.refusals.ReadRefusal.TheVariants.{Bad, Limit, NoMemory}
+use Rattle.hrt_reader.specs.declared.refusals.LimitKind.TheVariants.{Residents, Hospitals, Pairs}
 use Rattle.hrt_reader.specs.Kinds.{number}
 use Rattle.hrt_reader.specs.Refusal.{Refusal, bad_name, bad_capacity, bad_tie}
 
-abbrev pub IsRefusedBy : Option Refusal → SurveyError → Type 0
+-- the code's refusal is this one
+abbrev pub IsRefusedBy : Option Refusal → ReadRefusal → Type 0
 IsRefusedBy refusal (Bad kind line) = refusal ≡ Some (record { line = line; kind = number kind })
-IsRefusedBy refusal Memory = Unit {0}
+IsRefusedBy refusal (Limit Residents) = (line : ℕ) × (refusal ≡ Some (record { line = line; kind = 11 }))
+IsRefusedBy refusal (Limit Hospitals) = (line : ℕ) × (refusal ≡ Some (record { line = line; kind = 12 }))
+IsRefusedBy refusal (Limit Pairs) = ⊥
+IsRefusedBy refusal NoMemory = Unit {0}
 
 -- a line of this form has no kind that is its own alone, but for a name twice
 pub record IsFine (form : Form) : Type 0 where

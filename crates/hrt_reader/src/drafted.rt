@@ -10,10 +10,9 @@ ghost use Rattle.hrt_reader.specs.Survey.{IsFine};
 ghost use Rattle.hrt_text.specs.Views.{texts};
 
 use crate::first_pass::Names;
-use hrt_text::{Form, form_of};
-use hrt_text::capacity_of;
 use crate::numbered::numbered_groups;
 use hrt_base::NoMemory;
+use hrt_text::{Form, capacity_of, form_of};
 use indexmap::IndexSet;
 use rank_tables::{DraftHospital, DraftResident, Name};
 use std::alloc::Global;

@@ -5,14 +5,12 @@ ghost use Rattle.hrt_text.specs.Text.{rows};
 ghost use Rattle.hrt_reader.specs.Refusal.{hospital_names, refusal_but_6, resident_names};
 ghost use Rattle.hrt_reader.specs.Survey.{IsRefusedBy};
 ghost use Rattle.hrt_text.specs.Views.{texts};
-ghost use Rattle.hrt_reader.specs.declared.first_pass.SurveyError.TheVariants.{Memory};
 
-use crate::declarations::ReadKind;
-use hrt_text::next_line;
+use crate::refusals::{ReadKind, ReadRefusal, refused};
 use crate::stages::{Stage, Step, line_step};
-use hrt_base::NoMemory;
+use hrt_text::next_line;
 use indexmap::IndexSet;
-use std::alloc::{AllocError, Global};
+use std::alloc::Global;
 
 /// The names of both sides, in the order of declaration.
 #[derive(Drop)]
@@ -21,30 +19,8 @@ pub struct Names<'a> {
     pub hospitals: IndexSet<&'a [u8]>,
 }
 
-#[derive(Debug, Drop)]
-pub enum SurveyError {
-    Bad { kind: ReadKind, line: u32 },
-    Memory,
-}
-
-impl From<AllocError> for SurveyError {
-    ghost from_gives = { λ _ e. e ≡ Memory };
-
-    fn from(_e: AllocError) -> SurveyError {
-        SurveyError::Memory
-    }
-}
-
-impl From<NoMemory> for SurveyError {
-    ghost from_gives = { λ _ e. e ≡ Memory };
-
-    fn from(_e: NoMemory) -> SurveyError {
-        SurveyError::Memory
-    }
-}
-
 /// What the text declares, if no line has a kind other than an unknown name.
-pub fn survey<'a>(alloc: Global, text: &'a [u8]) -> Result<Names<'a>, SurveyError>
+pub fn survey<'a>(alloc: Global, text: &'a [u8]) -> Result<Names<'a>, ReadRefusal>
     requires { length (rows text.now) < 2 ^ 32 }
     ensures accepted { IfOk result (λ names. refusal_but_6 (rows text.entry.now) ≡ None) }
     ensures residents { IfOk result (λ names. texts names.residents.keys ≡ resident_names (rows text.entry.now)) }
@@ -68,16 +44,16 @@ pub fn survey<'a>(alloc: Global, text: &'a [u8]) -> Result<Names<'a>, SurveyErro
         )?;
         match done {
             Step::Next(next) => stage = next,
-            Step::Refused(kind) => return Err(SurveyError::Bad { kind, line: number }),
+            Step::Refused(flaw) => return Err(refused(flaw, number)),
         }
         rest = after;
     }
     match stage {
-        Stage::Start => Err(SurveyError::Bad {
+        Stage::Start => Err(ReadRefusal::Bad {
             kind: ReadKind::BadHeader,
             line: 1,
         }),
-        Stage::Open => Err(SurveyError::Bad {
+        Stage::Open => Err(ReadRefusal::Bad {
             kind: ReadKind::NoEnd,
             line: number,
         }),

@@ -9,10 +9,8 @@ ghost use Rattle.hrt_reader.specs.Refusal.{groups_in};
 ghost use Rattle.hrt_reader.specs.Numbered.{after_token, is_known, next_place, with_number};
 ghost use Rattle.hrt_text.specs.Views.{texts, view_token};
 
-use hrt_text::number_of;
-use hrt_text::Place;
-use hrt_text::{Token, next_token};
 use hrt_base::NoMemory;
+use hrt_text::{Place, Token, next_token, number_of};
 use indexmap::IndexSet;
 use rank_tables::Groups;
 use std::alloc::Global;

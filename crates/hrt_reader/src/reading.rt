@@ -8,15 +8,15 @@ ghost use Rattle.rank_tables.specs.Instance.{lists_of};
 ghost use Rattle.hrt_reader.specs.Survey.{IsRefusedBy};
 ghost use Rattle.hrt_text.specs.Views.{texts};
 
-use crate::declarations::ReadKind;
 use crate::drafted::add_line;
-use crate::first_pass::{Names, SurveyError, survey};
+use crate::first_pass::{Names, survey};
+use crate::refusals::{ReadKind, ReadRefusal};
 use hrt_text::next_line;
 use rank_tables::Draft;
 use std::alloc::Global;
 
 // The second pass: the lists, and the least line that names what is unknown.
-fn resolve(alloc: Global, text: &[u8], names: &Names) -> Result<Draft, SurveyError>
+fn resolve(alloc: Global, text: &[u8], names: &Names) -> Result<Draft, ReadRefusal>
     requires short { length (rows text.now) < 2 ^ 32 }
     requires accepted { refusal_but_6 (rows text.now) ≡ None }
     requires residents { texts names.now.residents.keys ≡ resident_names (rows text.now) }
@@ -33,7 +33,7 @@ fn resolve(alloc: Global, text: &[u8], names: &Names) -> Result<Draft, SurveyErr
         number += 1;
         let known = add_line(alloc, names, line, &mut residents, &mut hospitals)?;
         if !known {
-            return Err(SurveyError::Bad {
+            return Err(ReadRefusal::Bad {
                 kind: ReadKind::UnknownName,
                 line: number,
             });
@@ -47,7 +47,7 @@ fn resolve(alloc: Global, text: &[u8], names: &Names) -> Result<Draft, SurveyErr
 }
 
 /// The lists that the text spells, or its refusal.
-pub fn read(alloc: Global, text: &[u8]) -> Result<Draft, SurveyError>
+pub fn read(alloc: Global, text: &[u8]) -> Result<Draft, ReadRefusal>
     requires { length (rows text.now) < 2 ^ 32 }
     ensures spells { IfOk result (λ draft. Spells text.now (lists_of draft)) }
     ensures well_formed { IfOk result (λ draft. IsWellFormed (lists_of draft)) }

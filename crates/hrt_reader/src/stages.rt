@@ -1,15 +1,15 @@
-//! One line after the other: how far a text has come, and the kind that stops it.
+//! One line after the other: how far a text has come, and the flaw that stops it.
 
 ghost use Rattle.std.specs.Prelude.{◌≡◌, ◌&&◌, is_none, nat_lt, slice_get, if◌then◌else◌, IfOk, List, ℕ};
 ghost use Rattle.hrt_text.specs.Text.{Row, tokens};
 ghost use Rattle.hrt_reader.specs.Refusal.{hospital_names, resident_names};
 ghost use Rattle.hrt_text.specs.Views.{texts};
-ghost use Rattle.hrt_reader.specs.Kinds.{number};
+ghost use Rattle.hrt_reader.specs.Kinds.{flaw_number};
 ghost use Rattle.hrt_reader.specs.Stages.{IsStage, StepsBy, StepsTo};
 
-use crate::declarations::{ReadKind, hospital_kind, resident_kind};
-use hrt_text::{Form, form_of, is_header};
-use hrt_text::next_token;
+use crate::declarations::{hospital_flaw, resident_flaw};
+use crate::refusals::{Flaw, ReadKind};
+use hrt_text::{Form, form_of, is_header, next_token};
 use indexmap::IndexSet;
 use std::alloc::{AllocError, Global};
 
@@ -25,27 +25,27 @@ pub enum Stage {
 #[derive(Clone, Copy, Debug)]
 pub enum Step {
     Next(Stage),
-    Refused(ReadKind),
+    Refused(Flaw),
 }
 
 // A limit gives way to the missing end of a text, whose number is less.
-fn before_end(kind: ReadKind, is_last: bool) -> ReadKind
-    ensures { number result ≡ (if nat_lt 9 (number kind) && is_last then 9 else number kind) }
+fn before_end(flaw: Flaw, is_last: bool) -> Flaw
+    ensures { flaw_number result ≡ (if nat_lt 9 (flaw_number flaw) && is_last then 9 else flaw_number flaw) }
 {
-    match kind {
-        ReadKind::AfterEnd | ReadKind::TooManyResidents | ReadKind::TooManyHospitals if is_last => {
-            ReadKind::NoEnd
+    match flaw {
+        Flaw::Bad(ReadKind::AfterEnd) | Flaw::TooManyResidents | Flaw::TooManyHospitals if is_last => {
+            Flaw::Bad(ReadKind::NoEnd)
         }
         other => other,
     }
 }
 
-fn step_by(kind: Option<ReadKind>, is_last: bool) -> Step
-    ensures { StepsBy kind is_last result }
+fn step_by(flaw: Option<Flaw>, is_last: bool) -> Step
+    ensures { StepsBy flaw is_last result }
 {
-    match kind {
+    match flaw {
         None => Step::Next(Stage::Open),
-        Some(kind) => Step::Refused(before_end(kind, is_last)),
+        Some(flaw) => Step::Refused(before_end(flaw, is_last)),
     }
 }
 
@@ -58,7 +58,7 @@ fn start_step(line: &[u8]) -> Step
             if is_header(line) {
                 Step::Next(Stage::Open)
             } else {
-                Step::Refused(ReadKind::BadHeader)
+                Step::Refused(Flaw::Bad(ReadKind::BadHeader))
             }
         }
     }
@@ -69,7 +69,7 @@ fn ended_step(line: &[u8]) -> Step
 {
     match next_token(line) {
         None => Step::Next(Stage::Ended),
-        Some(_) => Step::Refused(ReadKind::AfterEnd),
+        Some(_) => Step::Refused(Flaw::Bad(ReadKind::AfterEnd)),
     }
 }
 
@@ -86,10 +86,10 @@ fn open_step<'a>(
     match form_of(line) {
         None => Ok(Step::Next(Stage::Open)),
         Some(Form::Finish) => Ok(Step::Next(Stage::Ended)),
-        Some(Form::Other) => Ok(Step::Refused(ReadKind::BadLine)),
+        Some(Form::Other) => Ok(Step::Refused(Flaw::Bad(ReadKind::BadLine))),
         Some(Form::Resident { name, items }) => {
-            let kind = resident_kind(alloc, name, items, residents)?;
-            Ok(step_by(kind, is_last))
+            let flaw = resident_flaw(alloc, name, items, residents)?;
+            Ok(step_by(flaw, is_last))
         }
         Some(
             Form::Hospital {
@@ -98,8 +98,8 @@ fn open_step<'a>(
                 items,
             },
         ) => {
-            let kind = hospital_kind(alloc, name, capacity, items, hospitals)?;
-            Ok(step_by(kind, is_last))
+            let flaw = hospital_flaw(alloc, name, capacity, items, hospitals)?;
+            Ok(step_by(flaw, is_last))
         }
     }
 }

@@ -1,6 +1,7 @@
-use Rattle.std.proofs.Common.{◌≡◌, ◌∙◌, ◌+◌, ◌++◌, ◌∷◌, [], ℕ, List, sym, ap, subst, map, length, take, drop, arith}
+use Rattle.std.proofs.Common.{◌≡◌, ◌∙◌, ◌+◌, ◌++◌, ◌∷◌, [], ℕ, List, sym, ap, subst, rules, Option, map, length, take, drop, arith}
 use Rattle.hrt_text.specs.Text.{Row, rows, tokens}
-use Rattle.hrt_reader.specs.Refusal.{resident_names, hospital_names}
+use Rattle.hrt_reader.specs.Refusal.{Refusal, refusal_but_6, resident_names, hospital_names}
+use Rattle.hrt_reader.specs.Survey.{IsRefusedBy}
 use Rattle.hrt_text.specs.Views.{texts}
 use Rattle.hrt_reader.specs.Stages.{IsStage, StepsTo}
 use Rattle.hrt_reader.specs.declared.stages.Stage.{Stage}
@@ -9,8 +10,8 @@ use Rattle.hrt_reader.specs.declared.stages.Step.{Step}
 use Rattle.hrt_reader.proofs.Places.{IsClean, refused_at, accepted_all, no_end, no_header, drop_next, take_next, clean_next, all_read, all_taken, last_is, within_at}
 use Rattle.hrt_reader.proofs.first_pass.survey.Goals as goal
 
-pub returns-in-Refused-clause-refused : goal.returns-in-Refused-clause-refused
-returns-in-Refused-clause-refused c =
+pub returns-in-Refused : goal.returns-in-Refused
+returns-in-Refused c =
     let all : List Row = rows c.args.text.now in
     let i : ℕ = c.loop-line.number in
     let row : Row = tokens c.in-Some.line.now in
@@ -19,7 +20,9 @@ returns-in-Refused-clause-refused c =
     let e : drop i all ≡ row ∷ after = v.rest ∙ ap (map tokens) c.in-Some.ensures.some in
     let made = c.in_ok-done.ensures (take i all) after v.stage v.residents v.hospitals (c.is_empty.ensures ∙ last_is c.in-Some.after.now) in
     let done = subst (λ (s : Step). StepsTo (take i all) row after (texts c.line_step.new.residents.keys) (texts c.line_step.new.hospitals.keys) s) c.in-Refused.is made in
-    refused_at all i _ row after e done.0 v.clean done.1
+    let is = refused_at all i _ row after e done.0 v.clean done.1 in
+    let by : IsRefusedBy (refusal_but_6 all) c.refused.result = subst (λ (o : Option Refusal). IsRefusedBy o c.refused.result) (sym is) c.refused.ensures in
+    search rules
 
 pub loop-line-preserved : goal.loop-line-preserved
 loop-line-preserved c =

@@ -22,28 +22,28 @@ pub returns-in-Some-Other : goal.returns-in-Some-Other
 returns-in-Some-Other c = λ before after h r k last.
     (c.in-Some-Other.ensures.filled, wrong_line before (tokens c.args.line.now) after h c.in-Some-Other.ensures.filled (ap view_form (sym c.in-Some-Other.field-0-is) ∙ c.in-Some-Other.ensures.some))
 
-pub returns-in_ok-kind-in-Some-Resident : goal.returns-in_ok-kind-in-Some-Resident
-returns-in_ok-kind-in-Some-Resident c = λ before after h r k last.
+pub returns-in_ok-flaw-in-Some-Resident : goal.returns-in_ok-flaw-in-Some-Resident
+returns-in_ok-flaw-in-Some-Resident c = λ before after h r k last.
     let e = ap view_form (sym c.in-Some-Resident.field-0-is) ∙ c.in-Some-Resident.ensures.some in
     let row : Row = tokens c.args.line.now in
     let name : List ℕ = c.in-Some-Resident.name.now in
-    let made = c.in_ok-kind-in-Some-Resident.ensures in
-    let rs : List (List ℕ) = texts c.resident_kind.new.residents.keys in
+    let made = c.in_ok-flaw-in-Some-Resident.ensures in
+    let rs : List (List ℕ) = texts c.resident_flaw.new.residents.keys in
     let hs : List (List ℕ) = texts c.args.hospitals.now.keys in
-    declared_step before row after (resident name (tokens c.in-Some-Resident.items.now)) c.in_ok-kind-in-Some-Resident.kind c.args.is_last c.step_by.result rs hs
-    h c.in-Some-Resident.ensures.filled e refl (made.kind before (before ++ row ∷ after) r) last c.step_by.ensures
-    (λ (none : c.in_ok-kind-in-Some-Resident.kind ≡ None).
-    (ap (λ (ns : List (List ℕ)). ns ++ name ∷ []) r ∙ sym (at_none c.in_ok-kind-in-Some-Resident.kind made.added none), append-nil (hospital_names before) ∙ k))
+    declared_step before row after (resident name (tokens c.in-Some-Resident.items.now)) c.in_ok-flaw-in-Some-Resident.flaw c.args.is_last c.step_by.result rs hs
+    h c.in-Some-Resident.ensures.filled e refl (made.least before (before ++ row ∷ after) r) last c.step_by.ensures
+    (λ (none : c.in_ok-flaw-in-Some-Resident.flaw ≡ None).
+    (ap (λ (ns : List (List ℕ)). ns ++ name ∷ []) r ∙ sym (at_none c.in_ok-flaw-in-Some-Resident.flaw made.added none), append-nil (hospital_names before) ∙ k))
 
-pub returns-in_ok-kind-in-Some-Hospital : goal.returns-in_ok-kind-in-Some-Hospital
-returns-in_ok-kind-in-Some-Hospital c = λ before after h r k last.
+pub returns-in_ok-flaw-in-Some-Hospital : goal.returns-in_ok-flaw-in-Some-Hospital
+returns-in_ok-flaw-in-Some-Hospital c = λ before after h r k last.
     let e = ap view_form (sym c.in-Some-Hospital.field-0-is) ∙ c.in-Some-Hospital.ensures.some in
     let row : Row = tokens c.args.line.now in
     let name : List ℕ = c.in-Some-Hospital.name.now in
-    let made = c.in_ok-kind-in-Some-Hospital.ensures in
+    let made = c.in_ok-flaw-in-Some-Hospital.ensures in
     let rs : List (List ℕ) = texts c.args.residents.now.keys in
-    let hs : List (List ℕ) = texts c.hospital_kind.new.hospitals.keys in
-    declared_step before row after (hospital name c.in-Some-Hospital.capacity.now (tokens c.in-Some-Hospital.items.now)) c.in_ok-kind-in-Some-Hospital.kind c.args.is_last c.step_by-in-Some-Hospital.result rs hs
-    h c.in-Some-Hospital.ensures.filled e refl (made.kind before (before ++ row ∷ after) k) last c.step_by-in-Some-Hospital.ensures
-    (λ (none : c.in_ok-kind-in-Some-Hospital.kind ≡ None).
-    (append-nil (resident_names before) ∙ r, ap (λ (ns : List (List ℕ)). ns ++ name ∷ []) k ∙ sym (at_none c.in_ok-kind-in-Some-Hospital.kind made.added none)))
+    let hs : List (List ℕ) = texts c.hospital_flaw.new.hospitals.keys in
+    declared_step before row after (hospital name c.in-Some-Hospital.capacity.now (tokens c.in-Some-Hospital.items.now)) c.in_ok-flaw-in-Some-Hospital.flaw c.args.is_last c.step_by-in-Some-Hospital.result rs hs
+    h c.in-Some-Hospital.ensures.filled e refl (made.least before (before ++ row ∷ after) k) last c.step_by-in-Some-Hospital.ensures
+    (λ (none : c.in_ok-flaw-in-Some-Hospital.flaw ≡ None).
+    (append-nil (resident_names before) ∙ r, ap (λ (ns : List (List ℕ)). ns ++ name ∷ []) k ∙ sym (at_none c.in_ok-flaw-in-Some-Hospital.flaw made.added none)))

@@ -1,0 +1,13 @@
+pub mod Worked
+pub mod SpelledItems
+pub mod Numbers
+pub mod SpelledRows
+pub mod RoundTrip
+pub mod Counts
+pub mod LineSteps
+pub mod Places
+pub mod TokenReading
+pub mod Accepted
+pub mod Unknowns
+pub mod WellFormed
+pub mod AcceptedLists

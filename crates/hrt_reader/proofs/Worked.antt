@@ -1,0 +1,145 @@
+-- The definitions, computed on texts worked by hand.
+use Rattle.std.specs.Prelude.{◌≡◌, ℕ, true, false, List, [], ◌∷◌, ◌++◌, flat_map, replicate, Option, Some, None, refl, codes}
+use Rattle.std.specs.Fmt.{digits}
+use Rattle.hrt_text.specs.Text.{rows, tokens, colon, opening, closing, word}
+use Rattle.rank_tables.specs.Instance.{Lists}
+use Rattle.hrt_text.specs.Grammar.{form_of}
+use Rattle.hrt_reader.specs.Refusal.{refusal, lists_of_rows, Refusal, Spells, has_kind, too_many_residents, too_many_hospitals}
+use Rattle.hrt_reader.specs.Spelling.{spelling}
+
+abbrev text : List (List ℕ) → List ℕ
+text ls = flat_map (λ l. l ++ 10 ∷ []) ls
+
+abbrev at : ℕ → ℕ → Option Refusal
+at k n = Some (record { line = k; kind = n })
+
+abbrev tied : Lists
+tied = record {
+  residents = record { name = codes "a"; groups = (0 ∷ []) ∷ (1 ∷ []) ∷ [] } ∷ record { name = codes "b"; groups = (0 ∷ []) ∷ [] } ∷ [];
+  hospitals = record { name = codes "x"; capacity = 1; groups = (0 ∷ 1 ∷ []) ∷ [] } ∷ record { name = codes "y"; capacity = 1; groups = (0 ∷ []) ∷ [] } ∷ [];
+}
+
+pub tied-spelling : spelling tied ≡ text (codes "hrt 1" ∷ codes "resident a: x y" ∷ codes "resident b: x" ∷ codes "hospital x 1: (a b)" ∷ codes "hospital y 1: a" ∷ codes "end" ∷ [])
+unfolding digits
+tied-spelling = refl
+
+pub tied-accepted : refusal (rows (text (codes "hrt 1" ∷ codes "resident a: x y" ∷ codes "resident b: x" ∷ codes "hospital x 1: (a b)" ∷ codes "hospital y 1: a" ∷ codes "end" ∷ []))) ≡ None
+tied-accepted = refl
+
+pub tied-says : lists_of_rows (rows (text (codes "hrt 1" ∷ codes "resident a: x y" ∷ codes "resident b: x" ∷ codes "hospital x 1: (a b)" ∷ codes "hospital y 1: a" ∷ codes "end" ∷ []))) ≡ tied
+tied-says = refl
+
+-- A without its last line
+pub no_end : refusal (rows (text (codes "hrt 1" ∷ codes "resident a: x y" ∷ codes "resident b: x" ∷ codes "hospital x 1: (a b)" ∷ codes "hospital y 1: a" ∷ []))) ≡ at 5 9
+no_end = refl
+
+pub after_end : refusal (rows (text (codes "hrt 1" ∷ codes "resident a: x y" ∷ codes "resident b: x" ∷ codes "hospital x 1: (a b)" ∷ codes "hospital y 1: a" ∷ codes "end" ∷ codes "resident c:" ∷ []))) ≡ at 7 10
+after_end = refl
+
+-- an empty file
+pub no_text : refusal (rows (text ([]))) ≡ at 1 1
+no_text = refl
+
+pub blank_text : refusal (rows (text (codes "" ∷ codes "# note" ∷ codes "" ∷ []))) ≡ at 1 1
+blank_text = refl
+
+pub other_header : refusal (rows (text (codes "" ∷ codes "hrt 2" ∷ codes "end" ∷ []))) ≡ at 2 1
+other_header = refl
+
+pub named_twice : refusal (rows (text (codes "hrt 1" ∷ codes "resident a: (x y) x" ∷ codes "resident b: x" ∷ codes "hospital x 1: (a b)" ∷ codes "hospital y 1: a" ∷ codes "end" ∷ []))) ≡ at 2 7
+named_twice = refl
+
+pub unknown : refusal (rows (text (codes "hrt 1" ∷ codes "resident a: x q" ∷ codes "resident b: x" ∷ codes "hospital x 1: (a b)" ∷ codes "hospital y 1: a" ∷ codes "end" ∷ []))) ≡ at 2 6
+unknown = refl
+
+pub capacity_above : refusal (rows (text (codes "hrt 1" ∷ codes "resident a: x y" ∷ codes "resident b: x" ∷ codes "hospital x 1: (a b)" ∷ codes "hospital y 20001: a" ∷ codes "end" ∷ []))) ≡ at 5 4
+capacity_above = refl
+
+pub capacity_most : refusal (rows (text (codes "hrt 1" ∷ codes "resident a: x y" ∷ codes "resident b: x" ∷ codes "hospital x 1: (a b)" ∷ codes "hospital y 20000: a" ∷ codes "end" ∷ []))) ≡ None
+capacity_most = refl
+
+pub capacity_word : refusal (rows (text (codes "hrt 1" ∷ codes "resident a: x y" ∷ codes "resident b: x" ∷ codes "hospital x 1: (a b)" ∷ codes "hospital y one: a" ∷ codes "end" ∷ []))) ≡ at 5 4
+capacity_word = refl
+
+pub capacity_long : refusal (rows (text (codes "hrt 1" ∷ codes "resident a: x y" ∷ codes "resident b: x" ∷ codes "hospital x 1: (a b)" ∷ codes "hospital y 000001: a" ∷ codes "end" ∷ []))) ≡ at 5 4
+capacity_long = refl
+
+pub first_token : refusal (rows (text (codes "hrt 1" ∷ codes "residents a: x y" ∷ codes "resident b: x" ∷ codes "hospital x 1: (a b)" ∷ codes "hospital y 1: a" ∷ codes "end" ∷ []))) ≡ at 2 2
+first_token = refl
+
+pub no_colon : refusal (rows (text (codes "hrt 1" ∷ codes "resident a x y" ∷ codes "resident b: x" ∷ codes "hospital x 1: (a b)" ∷ codes "hospital y 1: a" ∷ codes "end" ∷ []))) ≡ at 2 2
+no_colon = refl
+
+pub capacity_mark : refusal (rows (text (codes "hrt 1" ∷ codes "resident a: x y" ∷ codes "resident b: x" ∷ codes "hospital x 1: (a b)" ∷ codes "hospital y : 1: a" ∷ codes "end" ∷ []))) ≡ at 5 2
+capacity_mark = refl
+
+-- `end` isn't alone, so the text has no end, which is a greater number
+pub end_more : refusal (rows (text (codes "hrt 1" ∷ codes "resident a: x y" ∷ codes "resident b: x" ∷ codes "hospital x 1: (a b)" ∷ codes "hospital y 1: a" ∷ codes "end end" ∷ []))) ≡ at 6 2
+end_more = refl
+
+pub long_name : refusal (rows (text (codes "hrt 1" ∷ codes "resident nnnnnnnnnnnnnnnnnnnnnnnnnnnnnnnnnnnnnnnnnnnnnnnnnnnnnnnnnnnnnnnnn: x y" ∷ codes "resident b: x" ∷ codes "hospital x 1: (a b)" ∷ codes "hospital y 1: a" ∷ codes "end" ∷ []))) ≡ at 2 3
+long_name = refl
+
+pub name_64 : refusal (rows (text (codes "hrt 1" ∷ codes "resident nnnnnnnnnnnnnnnnnnnnnnnnnnnnnnnnnnnnnnnnnnnnnnnnnnnnnnnnnnnnnnnn:" ∷ codes "end" ∷ []))) ≡ None
+name_64 = refl
+
+pub declared_twice : refusal (rows (text (codes "hrt 1" ∷ codes "resident a: x y" ∷ codes "resident b: x" ∷ codes "resident a:" ∷ codes "hospital x 1: (a b)" ∷ codes "hospital y 1: a" ∷ codes "end" ∷ []))) ≡ at 4 5
+declared_twice = refl
+
+-- the sides have name spaces of their own
+pub other_side : refusal (rows (text (codes "hrt 1" ∷ codes "resident a:" ∷ codes "hospital a 1:" ∷ codes "end" ∷ []))) ≡ None
+other_side = refl
+
+pub nested : refusal (rows (text (codes "hrt 1" ∷ codes "resident a: x y" ∷ codes "resident b: x" ∷ codes "hospital x 1: (a (b))" ∷ codes "hospital y 1: a" ∷ codes "end" ∷ []))) ≡ at 4 8
+nested = refl
+
+pub empty_tie : refusal (rows (text (codes "hrt 1" ∷ codes "resident a: x y" ∷ codes "resident b: x" ∷ codes "hospital x 1: a () b" ∷ codes "hospital y 1: a" ∷ codes "end" ∷ []))) ≡ at 4 8
+empty_tie = refl
+
+pub unpaired : refusal (rows (text (codes "hrt 1" ∷ codes "resident a: x y" ∷ codes "resident b: x" ∷ codes "hospital x 1: (a b" ∷ codes "hospital y 1: a" ∷ codes "end" ∷ []))) ≡ at 4 8
+unpaired = refl
+
+pub second_colon : refusal (rows (text (codes "hrt 1" ∷ codes "resident a: x y" ∷ codes "resident b: x" ∷ codes "hospital x 1: a : b" ∷ codes "hospital y 1: a" ∷ codes "end" ∷ []))) ≡ at 4 8
+second_colon = refl
+
+pub tie_of_one : refusal (rows (text (codes "hrt 1" ∷ codes "resident a: x y" ∷ codes "resident b: x" ∷ codes "hospital x 1: (a b)" ∷ codes "hospital y 1: ( a )" ∷ codes "end" ∷ []))) ≡ None
+tie_of_one = refl
+
+-- three kinds in one line
+pub least_number : refusal (rows (text (codes "hrt 1" ∷ codes "resident a: x y" ∷ codes "resident b: x" ∷ codes "hospital x 1: (a b)" ∷ codes "hospital y x: a a (" ∷ codes "end" ∷ []))) ≡ at 5 4
+least_number = refl
+
+-- kind 6 is looked for only where no other stands
+pub least_line : refusal (rows (text (codes "hrt 1" ∷ codes "resident a: q" ∷ codes "hospital x 1: a a" ∷ codes "end" ∷ []))) ≡ at 3 7
+least_line = refl
+
+pub unknown_least : refusal (rows (text (codes "hrt 1" ∷ codes "hospital x 1: b" ∷ codes "resident a: q" ∷ codes "end" ∷ []))) ≡ at 2 6
+unknown_least = refl
+
+pub after_bad_header : refusal (rows (text (codes "hrt" ∷ codes "resident a a" ∷ codes "bad" ∷ []))) ≡ at 1 1
+after_bad_header = refl
+
+-- line ends of two bytes, tabs, blank lines, comments, blanks in the tie, and no line feed after `end`
+pub loose : Spells (13 ∷ 10 ∷ 104 ∷ 114 ∷ 116 ∷ 9 ∷ 49 ∷ 13 ∷ 10 ∷ 13 ∷ 10 ∷ 114 ∷ 101 ∷ 115 ∷ 105 ∷ 100 ∷ 101 ∷ 110 ∷ 116 ∷ 9 ∷ 97 ∷ 58 ∷ 9 ∷ 120 ∷ 9 ∷ 121 ∷ 32 ∷ 35 ∷ 32 ∷ 110 ∷ 111 ∷ 116 ∷ 101 ∷ 13 ∷ 10 ∷ 114 ∷ 101 ∷ 115 ∷ 105 ∷ 100 ∷ 101 ∷ 110 ∷ 116 ∷ 32 ∷ 98 ∷ 58 ∷ 32 ∷ 120 ∷ 35 ∷ 110 ∷ 111 ∷ 116 ∷ 101 ∷ 13 ∷ 10 ∷ 104 ∷ 111 ∷ 115 ∷ 112 ∷ 105 ∷ 116 ∷ 97 ∷ 108 ∷ 32 ∷ 120 ∷ 32 ∷ 49 ∷ 58 ∷ 32 ∷ 40 ∷ 32 ∷ 97 ∷ 32 ∷ 32 ∷ 98 ∷ 32 ∷ 41 ∷ 13 ∷ 10 ∷ 9 ∷ 104 ∷ 111 ∷ 115 ∷ 112 ∷ 105 ∷ 116 ∷ 97 ∷ 108 ∷ 9 ∷ 121 ∷ 32 ∷ 49 ∷ 9 ∷ 58 ∷ 97 ∷ 13 ∷ 10 ∷ 101 ∷ 110 ∷ 100 ∷ []) tied
+loose = record { accepted = refl; says = refl }
+
+pub some_tokens : tokens (codes "a:(bc d)#e") ≡ word (codes "a") ∷ colon ∷ opening ∷ word (codes "bc") ∷ word (codes "d") ∷ closing ∷ []
+some_tokens = refl
+
+-- a byte 1 is no byte of a name
+pub low_byte : refusal (rows (text (codes "hrt 1" ∷ (codes "resident " ++ 1 ∷ codes ":") ∷ []))) ≡ at 2 3
+low_byte = refl
+
+-- a kind beyond the least
+pub also_bad_tie : has_kind (rows (text (codes "hrt 1" ∷ codes "hospital y x: a a (" ∷ []))) 2 8 ≡ true
+also_bad_tie = refl
+
+-- the 20,001st
+pub too_many : too_many_residents (replicate 20000 (tokens (codes "resident a:"))) (form_of (tokens (codes "resident b:"))) ≡ true
+too_many = refl
+
+pub too_many-hospitals : too_many_hospitals (replicate 20000 (tokens (codes "hospital a 1:"))) (form_of (tokens (codes "hospital b 1:"))) ≡ true
+too_many-hospitals = refl
+
+pub not_too_many : too_many_residents (replicate 19999 (tokens (codes "resident a:"))) (form_of (tokens (codes "resident b:"))) ≡ false
+not_too_many = refl

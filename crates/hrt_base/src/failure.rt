@@ -4,13 +4,16 @@ ghost use Rattle.hrt_base.specs.declared.failure.WriteEnd.TheVariants.{Failed as
 ghost use Rattle.hrt_base.specs.declared.failure.ReadEnd.TheVariants.{Failed as read_failed, NoMemory as read_no_memory};
 
 use std::alloc::{AllocError, AllocFailed};
+use thiserror::Error;
 
 /// The host could not do what it was asked.
-#[derive(Clone, Copy, Debug, PartialEq, Eq)]
+#[derive(Clone, Copy, Debug, PartialEq, Eq, Error)]
+#[error("the host failed")]
 pub struct Failed;
 
 /// There was no memory.
-#[derive(Clone, Copy, Debug, PartialEq, Eq)]
+#[derive(Clone, Copy, Debug, PartialEq, Eq, Error)]
+#[error("there is no memory")]
 pub struct NoMemory;
 
 impl From<AllocError> for NoMemory {
@@ -26,17 +29,22 @@ impl<T: Drop> From<AllocFailed<T>> for NoMemory {
 }
 
 /// Why a text was not written whole.
-#[derive(Clone, Copy, Debug, PartialEq, Eq)]
+#[derive(Clone, Copy, Debug, PartialEq, Eq, Error)]
 pub enum WriteEnd {
+    #[error("writing failed")]
     Failed,
+    #[error("there is no memory to write")]
     NoMemory,
 }
 
 /// Why a text was not read whole.
-#[derive(Clone, Copy, Debug, PartialEq, Eq)]
+#[derive(Clone, Copy, Debug, PartialEq, Eq, Error)]
 pub enum ReadEnd {
+    #[error("reading failed")]
     Failed,
+    #[error("the text is longer than the limit")]
     TooLong,
+    #[error("there is no memory to read")]
     NoMemory,
 }
 

@@ -1,4 +1,4 @@
-ghost use Rattle.std.specs.Prelude.{◌≡◌, ◌<◌, ◌≤◌, [], length, take, IfOk, OnOk, OnErr};
+ghost use Rattle.std.specs.Prelude.{◌≡◌, ◌<◌, ◌≤◌, ◌↔◌, [], length, take, IfOk, OnOk, OnErr};
 ghost use Rattle.hrt_base.specs.World.{World};
 ghost use Rattle.hrt_base.specs.Calls.{NotRead, NotWritten, Opened, Started, Sealed, Taken, Sent};
 
@@ -32,7 +32,7 @@ pub trait Host {
         requires room { 0 < length buffer.old }
         ensures count { IfOk result (λ n. n ≤ length buffer.new) }
         ensures taken { IfOk result (λ n. Taken told port (take n buffer.new) (world self.old) (world self.new)) }
-        ensures end { told → IfOk result (λ n. n ≡ 0 → (world self.old).content.rest port ≡ []) }
+        ensures end { told → IfOk result (λ n. (n ≡ 0) ↔ ((world self.old).content.rest port ≡ [])) }
         ensures failed { OnErr result (NotRead told (world self.old) (world self.new)) };
 
     /// Begins a port for writing under a name.

@@ -11,5 +11,5 @@ mod refusals;
 mod stages;
 
 pub use law::spelling_is_read_back;
-pub use reading::read;
+pub use reading::read_instance;
 pub use refusals::{LimitKind, ReadKind, ReadRefusal};

@@ -1,6 +1,10 @@
 //! Reading an instance's text.
 
-ghost use Rattle.std.specs.Prelude.{◌≡◌, ◌<◌, ◌^◌, None, length, IfOk, IfErr};
+ghost use Rattle.std.specs.Prelude.{◌≡◌, ◌<◌, ◌≤◌, ◌==◌, ◌^◌, None, Some, count_by, length, IfOk, IfErr};
+ghost use Rattle.rank_tables.specs.Instance.{pair_count};
+ghost use Rattle.rank_tables.specs.WellFormed.{most_pairs};
+ghost use Rattle.hrt_reader.specs.Answer.{IsRefused};
+ghost use Rattle.hrt_reader.specs.Refusal.{Refusal, lists_of_rows};
 ghost use Rattle.hrt_text.specs.Text.{rows};
 ghost use Rattle.hrt_reader.specs.Refusal.{hospital_names, refusal, refusal_but_6, resident_names, Spells};
 ghost use Rattle.rank_tables.specs.WellFormed.{IsWellFormed};
@@ -10,9 +14,9 @@ ghost use Rattle.hrt_text.specs.Views.{texts};
 
 use crate::drafted::add_line;
 use crate::first_pass::{Names, survey};
-use crate::refusals::{ReadKind, ReadRefusal};
+use crate::refusals::{LimitKind, ReadKind, ReadRefusal};
 use hrt_text::next_line;
-use rank_tables::Draft;
+use rank_tables::{BuildRefusal, Draft, Instance};
 use std::alloc::Global;
 
 // The second pass: the lists, and the least line that names what is unknown.
@@ -46,8 +50,8 @@ fn resolve(alloc: Global, text: &[u8], names: &Names) -> Result<Draft, ReadRefus
     })
 }
 
-/// The lists that the text spells, or its refusal.
-pub fn read(alloc: Global, text: &[u8]) -> Result<Draft, ReadRefusal>
+// The lists that the text spells, or its refusal.
+fn read_lists(alloc: Global, text: &[u8]) -> Result<Draft, ReadRefusal>
     requires { length (rows text.now) < 2 ^ 32 }
     ensures spells { IfOk result (λ draft. Spells text.now (lists_of draft)) }
     ensures well_formed { IfOk result (λ draft. IsWellFormed (lists_of draft)) }
@@ -55,4 +59,21 @@ pub fn read(alloc: Global, text: &[u8]) -> Result<Draft, ReadRefusal>
 {
     let names = survey(alloc, text)?;
     resolve(alloc, text, &names)
+}
+
+/// Reads an instance's text. Line feeds are few enough for a line number to fit.
+pub fn read_instance(alloc: Global, bytes: &[u8]) -> Result<Instance, ReadRefusal>
+    requires { count_by (λ b. b == 10) bytes.now ≤ 4294967294 }
+    ensures spells { IfOk result (λ instance. Spells bytes.now instance) }
+    ensures few { IfOk result (λ instance. pair_count instance ≤ most_pairs) }
+    ensures refused { IfErr result (IsRefused bytes.now) }
+    ensures accepts { refusal (rows bytes.now) ≡ None → pair_count (lists_of_rows (rows bytes.now)) ≤ most_pairs → IfErr result (λ e. e ≡ ReadRefusal.NoMemory) }
+    ensures refuses { (r : Refusal) → refusal (rows bytes.now) ≡ Some r → IfOk result (λ instance. ⊥) }
+{
+    let draft = read_lists(alloc, bytes)?;
+    match Instance::build(alloc, draft) {
+        Ok(instance) => Ok(instance),
+        Err(BuildRefusal::TooManyPairs) => Err(ReadRefusal::Limit(LimitKind::Pairs)),
+        Err(BuildRefusal::NoMemory) => Err(ReadRefusal::NoMemory),
+    }
 }

@@ -3,3 +3,4 @@ pub mod Words
 pub mod Values
 pub mod Among
 pub mod OpenGroup
+pub mod Feeds

@@ -39,8 +39,9 @@ kind_word n =
     else if n == 4 then codes "BadCapacity" else if n == 5 then codes "DeclaredTwice" else if n == 6 then codes "UnknownName"
     else if n == 7 then codes "NamedTwice" else if n == 8 then codes "BadTie" else if n == 9 then codes "NoEnd" else codes "AfterEnd"
 
-abbrev pub refusal_line : List ℕ → ℕ → List ℕ → List ℕ
-refusal_line what number kind = what ++ codes " refused line " ++ decimal number ++ 32 ∷ (kind ++ 10 ∷ [])
+-- a number and what is there
+abbrev pub place_line : ℕ → List ℕ → List ℕ
+place_line number what = decimal number ++ 32 ∷ line what
 
 abbrev pub limit_line : Limit → List ℕ
 limit_line limit = codes "limit " ++ count_line (name_of limit) (most limit)
@@ -49,10 +50,10 @@ limit_line limit = codes "limit " ++ count_line (name_of limit) (most limit)
 pub record IsSolveReport (lists : Lists) (text : List ℕ) : Type 0 where
   pub pairs : List ℕ
   pub best : Best lists pairs
-  pub text : text ≡ solve_report lists pairs
+  pub is_report : text ≡ solve_report lists pairs
 
 abbrev pub IsReport : Verdict → List ℕ → Type 0
 IsReport misused text = text ≡ line (codes "words not understood")
-IsReport (refused r) text = text ≡ refusal_line (codes "instance") r.line (kind_word r.kind)
+IsReport (refused r) text = text ≡ codes "instance refused line " ++ place_line r.line (kind_word r.kind)
 IsReport (exceeded limit) text = text ≡ limit_line limit
 IsReport (solved lists) text = IsSolveReport lists text

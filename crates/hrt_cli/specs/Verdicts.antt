@@ -5,6 +5,8 @@ use Rattle.hrt_text.specs.Text.{rows}
 use Rattle.hrt_reader.specs.Refusal.{Refusal, refusal, lists_of_rows}
 use Rattle.hrt_cli.specs.declared.limit.Limit.{Limit}
 use Rattle.hrt_cli.specs.declared.limit.Limit.TheVariants.{Residents, Hospitals, Pairs, TriedPairs, InstanceBytes, PairsBytes}
+use Rattle.hrt_cli.specs.declared.status.Status.{Status}
+use Rattle.hrt_cli.specs.declared.status.Status.TheVariants.{Done, Misused, InstanceRefused, LimitExceeded}
 use Rattle.hrt_cli.specs.Limits.{most}
 use Rattle.hrt_cli.specs.Requests.{Request, solve}
 
@@ -49,8 +51,8 @@ verdict_of None files = Some misused
 verdict_of (Some (solve instance)) files = option_map solve_verdict (files instance)
 verdict_of (Some other) files = None
 
-abbrev pub status_of : Verdict → ℕ
-status_of (solved lists) = 0
-status_of misused = 2
-status_of (refused r) = 3
-status_of (exceeded limit) = 7
+abbrev pub status_of : Verdict → Status
+status_of (solved lists) = Done
+status_of misused = Misused
+status_of (refused r) = InstanceRefused
+status_of (exceeded limit) = LimitExceeded

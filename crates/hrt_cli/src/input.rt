@@ -19,7 +19,7 @@ pub fn read_file<H: Host>(
     ensures short { IfOk result (λ bytes. length bytes.items ≤ limit) }
     ensures too_long { IsErrOf result ReadEnd.TooLong → IsTooLong H.told port name.now limit (H.world host.old) (H.world host.new) }
     ensures failed { IsErrOf result ReadEnd.Failed → Rose (H.world host.old).read_faults (H.world host.new).read_faults }
-    ensures given_up { OnErr result (OnlyRead H.told port (H.world host.old) (H.world host.new)) }
+    ensures given_up { OnErr result (OnlyRead H.told (H.world host.old) (H.world host.new)) }
 {
     host.begin_read(port, name)?;
     read_all(alloc, host, port, limit)

@@ -1,5 +1,5 @@
 -- What a run answers for a verdict.
-use Rattle.std.specs.Prelude.{◌≡◌, ◌⊎◌, ℕ, List, [], Option, Some}
+use Rattle.std.specs.Prelude.{◌≡◌, ◌⊎◌, ℕ, Bool, true, false, IsTrue, List, [], Option, Some}
 use Rattle.hrt_base.specs.declared.port.Port.{Port}
 use Rattle.hrt_base.specs.declared.port.Port.TheVariants.{Instance, Pairs, Model, Proof, Report, ModelTwo, ProofTwo}
 use Rattle.hrt_base.specs.declared.host.Begun.TheVariants.{Reading}
@@ -8,6 +8,8 @@ use Rattle.hrt_base.specs.World.{World}
 use Rattle.hrt_reader.specs.Kinds.{number}
 use Rattle.hrt_cli.specs.declared.limit.Limit.TheVariants.{InstanceBytes, PairsBytes}
 use Rattle.hrt_cli.specs.declared.answer.Answer.{Answer}
+use Rattle.hrt_cli.specs.declared.status.Status.{Status}
+use Rattle.hrt_cli.specs.declared.status.Status.TheVariants as status
 use Rattle.hrt_cli.specs.declared.stop.Stop.{Stop}
 use Rattle.hrt_cli.specs.declared.stop.Stop.TheVariants.{Refused, Exceeded, ReadFault, NoMemory}
 use Rattle.hrt_cli.specs.declared.stop.Ended.{Ended}
@@ -17,6 +19,16 @@ use Rattle.hrt_cli.specs.Loading.{FailedToRead}
 use Rattle.hrt_cli.specs.Reports.{IsReport}
 use Rattle.hrt_cli.specs.Requests.{Request}
 use Rattle.hrt_cli.specs.Verdicts.{Verdict, refused, exceeded, verdict_of, status_of}
+
+-- a status that tells a verdict on the files
+abbrev pub is_on_files : Status → Bool
+is_on_files status.Done = true
+is_on_files status.Misused = false
+is_on_files status.InstanceRefused = true
+is_on_files status.ReadFault = false
+is_on_files status.WriteFault = false
+is_on_files status.NoMemory = false
+is_on_files status.LimitExceeded = true
 
 -- the status and the report of a verdict
 pub record IsAnswer (verdict : Verdict) (answer : Answer) : Type 0 where
@@ -52,6 +64,7 @@ IsReadOut verdict w = (port : Port) → w.begun port ≡ Reading → (w.content.
 -- the words and the files come to this answer, and nothing but reading was done
 pub record IsAnswered (told : Type 0) (request : Option Request) (answer : Answer) (old new : World) : Type 0 where
   pub only_read : OnlyRead told old new
+  pub on_files : IsTrue (is_on_files answer.status)
   pub due : told → (verdict : Verdict) × (verdict_of request old.content.file ≡ Some verdict) × IsAnswer verdict answer × IsReadOut verdict new
 
 -- a run was given up before its report

@@ -4,5 +4,6 @@ pub mod Limits
 pub mod Loading
 pub mod Reports
 pub mod Requests
+pub mod Runs
 pub mod Statuses
 pub mod Verdicts

@@ -1,16 +1,17 @@
 -- What the loading of an instance comes to.
-use Rattle.std.specs.Prelude.{◌≡◌, ◌⊎◌, ℕ, List, [], Some, Result, Ok, Err}
+use Rattle.std.specs.Prelude.{◌≡◌, ◌≤◌, ◌⊎◌, ℕ, List, [], Some, Result, Ok, Err}
 use Rattle.hrt_base.specs.declared.port.Port.TheVariants.{Instance}
 use Rattle.hrt_base.specs.declared.host.Begun.TheVariants.{Reading}
 use Rattle.hrt_base.specs.Calls.{Rose}
 use Rattle.hrt_base.specs.World.{World, put, with_rest}
-use Rattle.rank_tables.specs.Instance.{Lists}
+use Rattle.rank_tables.specs.Instance.{Lists, pair_count}
 use Rattle.hrt_reader.specs.Kinds.{number}
 use Rattle.hrt_cli.specs.declared.limit.Limit.{Limit}
 use Rattle.hrt_cli.specs.declared.limit.Limit.TheVariants.{InstanceBytes}
 use Rattle.hrt_cli.specs.declared.stop.Stop.{Stop}
 use Rattle.hrt_cli.specs.declared.stop.Stop.TheVariants.{Refused, Exceeded, ReadFault, NoMemory}
 use Rattle.hrt_cli.specs.Inputs.{OnlyRead}
+use Rattle.hrt_cli.specs.Limits.{most}
 use Rattle.hrt_cli.specs.Verdicts.{Verdict, refused, exceeded, lists_in, within}
 
 -- the text comes to this verdict
@@ -25,6 +26,7 @@ pub record IsLoaded (told : Type 0) (name : List ℕ) (limit : Limit) (lists : L
   pub only_read : OnlyRead told old new
   pub begun : new.begun ≡ put Instance Reading old.begun
   pub content : told → new.content ≡ with_rest Instance [] old.content
+  pub few : pair_count lists ≤ most limit
   pub spelled : told → (bytes : List ℕ) × (old.content.file name ≡ Some bytes) × (within limit (lists_in bytes) ≡ Ok lists)
 
 -- the file was read to its end, or further than its limit, and comes to a verdict

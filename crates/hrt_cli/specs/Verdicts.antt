@@ -49,7 +49,6 @@ solve_verdict bytes = due (within TriedPairs (lists_in bytes)) solved
 abbrev pub verdict_of : Option Request → Files → Option Verdict
 verdict_of None files = Some misused
 verdict_of (Some (solve instance)) files = option_map solve_verdict (files instance)
-verdict_of (Some other) files = None
 
 abbrev pub status_of : Verdict → Status
 status_of (solved lists) = Done

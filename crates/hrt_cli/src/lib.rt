@@ -6,6 +6,8 @@ mod input;
 mod limit;
 mod loading;
 mod report;
+mod run;
+mod solve;
 mod status;
 mod stop;
 mod words;

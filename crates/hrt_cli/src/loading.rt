@@ -1,5 +1,6 @@
 // Instances from files.
 ghost use Rattle.std.specs.Prelude.{◌≡◌, ◌≤◌, length, IfOk, IfErr, Ok};
+ghost use Rattle.rank_tables.specs.Instance.{pair_count};
 ghost use Rattle.rank_tables.specs.WellFormed.{most_pairs};
 ghost use Rattle.hrt_cli.specs.Limits.{most};
 ghost use Rattle.hrt_cli.specs.Loading.{IsLoaded, StopsLoading, StopsText};
@@ -43,6 +44,7 @@ fn instance_in(alloc: Global, bytes: &[u8], limit: Limit) -> Result<Instance, St
     requires short { length bytes.now ≤ 67108864 }
     requires few { most limit ≤ most_pairs }
     ensures lists { IfOk result (λ lists. within limit (lists_in bytes.now) ≡ Ok lists) }
+    ensures within { IfOk result (λ lists. pair_count lists ≤ most limit) }
     ensures stopped { IfErr result (StopsText (within limit (lists_in bytes.now))) }
 {
     match read_instance(alloc, bytes) {

@@ -3,5 +3,6 @@ mod Cuts
 pub mod Membership
 pub mod Numbers
 pub mod PairFacts
+pub mod StablePairs
 pub mod TableFacts
 mod Worked

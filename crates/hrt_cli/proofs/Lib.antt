@@ -1,3 +1,4 @@
+mod Codes
 mod Ports
 mod Runs
 mod Solving

@@ -13,21 +13,21 @@ use Rattle.hrt_cli.specs.declared.limit.Limit.TheVariants.{TriedPairs, InstanceB
 use Rattle.hrt_cli.specs.Answers.{IsReadOut, PassedAt}
 use Rattle.hrt_cli.specs.Inputs.{OnlyRead}
 use Rattle.hrt_cli.specs.Requests.{solve}
-use Rattle.hrt_cli.specs.Verdicts.{Files, Verdict, exceeded, solved, due, lists_in, solve_verdict, verdict_of, within}
+use Rattle.hrt_cli.specs.Verdicts.{Files, Rejection, Verdict, exceeded, rejected, solved, due, lists_in, solve_verdict, verdict_of, within}
 use Rattle.hrt_cli.proofs.Runs.{put_elsewhere, reads_nothing}
 
 -- the verdict on lists, and on a refusal
 pub solved_due : (files : Files) (name bytes : List ℕ) (lists : Lists) → files name ≡ Some bytes → within TriedPairs (lists_in bytes) ≡ Ok lists
     → verdict_of (Some (solve name)) files ≡ Some (solved lists)
-solved_due files name bytes lists file spelled = ap (option_map solve_verdict) file ∙ ap (λ (r : Result Lists Verdict). Some (due r solved)) spelled
+solved_due files name bytes lists file spelled = ap (option_map solve_verdict) file ∙ ap (λ (r : Result Lists Rejection). Some (due r solved)) spelled
 
-pub rejected_due : (files : Files) (name bytes : List ℕ) (verdict : Verdict) → files name ≡ Some bytes → within TriedPairs (lists_in bytes) ≡ Err verdict
-    → verdict_of (Some (solve name)) files ≡ Some verdict
-rejected_due files name bytes verdict file refused = ap (option_map solve_verdict) file ∙ ap (λ (r : Result Lists Verdict). Some (due r solved)) refused
+pub rejected_due : (files : Files) (name bytes : List ℕ) (rejection : Rejection) → files name ≡ Some bytes → within TriedPairs (lists_in bytes) ≡ Err rejection
+    → verdict_of (Some (solve name)) files ≡ Some (rejected rejection)
+rejected_due files name bytes rejection file refused = ap (option_map solve_verdict) file ∙ ap (λ (r : Result Lists Rejection). Some (due r solved)) refused
 
 -- only the instance was begun for reading
 pub reads_instance : (told : Type 0) (old mid : World) (verdict : Verdict) → AtStart told old → mid.begun ≡ put Instance Reading old.begun
-    → (mid.content.rest Instance ≡ []) ⊎ (verdict ≡ exceeded InstanceBytes) → IsReadOut verdict mid
+    → (mid.content.rest Instance ≡ []) ⊎ (verdict ≡ rejected (exceeded InstanceBytes)) → IsReadOut verdict mid
 reads_instance told old mid verdict start begun out p reading = elim (cases_eq (port_no p) (port_no Instance)) [
   | inl same ↦ let e : p ≡ Instance = port_no-injective p Instance same in subst (λ (q : Port). (mid.content.rest q ≡ []) ⊎ PassedAt verdict q) (sym e) out
   | inr other ↦

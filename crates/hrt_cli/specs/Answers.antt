@@ -18,7 +18,7 @@ use Rattle.hrt_cli.specs.Inputs.{OnlyRead}
 use Rattle.hrt_cli.specs.Loading.{FailedToRead}
 use Rattle.hrt_cli.specs.Reports.{IsReport}
 use Rattle.hrt_cli.specs.Requests.{Request}
-use Rattle.hrt_cli.specs.Verdicts.{Verdict, refused, exceeded, verdict_of, status_of}
+use Rattle.hrt_cli.specs.Verdicts.{Verdict, rejected, refused, exceeded, verdict_of, status_of}
 
 -- a status that tells a verdict on the files
 abbrev pub is_on_files : Status → Bool
@@ -37,8 +37,8 @@ pub record IsAnswer (verdict : Verdict) (answer : Answer) : Type 0 where
 
 -- an answer tells why there was a stop
 abbrev pub Explains : Stop → Answer → Type 0
-Explains (Refused kind line) answer = IsAnswer (refused (record { line = line; kind = number kind })) answer
-Explains (Exceeded limit) answer = IsAnswer (exceeded limit) answer
+Explains (Refused kind line) answer = IsAnswer (rejected (refused (record { line = line; kind = number kind }))) answer
+Explains (Exceeded limit) answer = IsAnswer (rejected (exceeded limit)) answer
 Explains ReadFault answer = ⊥
 Explains NoMemory answer = ⊥
 
@@ -50,8 +50,8 @@ EndsFor stop ended.NoMemory = Unit {0}
 
 -- Each port that was begun for reading was read to its end, but for the one whose length limit was passed.
 abbrev pub PassedAt : Verdict → Port → Type 0
-PassedAt verdict Instance = verdict ≡ exceeded InstanceBytes
-PassedAt verdict Pairs = verdict ≡ exceeded PairsBytes
+PassedAt verdict Instance = verdict ≡ rejected (exceeded InstanceBytes)
+PassedAt verdict Pairs = verdict ≡ rejected (exceeded PairsBytes)
 PassedAt verdict Model = ⊥
 PassedAt verdict Proof = ⊥
 PassedAt verdict Report = ⊥

@@ -12,10 +12,10 @@ use Rattle.hrt_cli.specs.declared.stop.Stop.{Stop}
 use Rattle.hrt_cli.specs.declared.stop.Stop.TheVariants.{Refused, Exceeded, ReadFault, NoMemory}
 use Rattle.hrt_cli.specs.Inputs.{OnlyRead}
 use Rattle.hrt_cli.specs.Limits.{most}
-use Rattle.hrt_cli.specs.Verdicts.{Verdict, refused, exceeded, lists_in, within}
+use Rattle.hrt_cli.specs.Verdicts.{Rejection, refused, exceeded, lists_in, within}
 
--- the text comes to this verdict
-abbrev pub StopsText : Result Lists Verdict → Stop → Type 0
+-- the lists of a text could not be had, and this is why
+abbrev pub StopsText : Result Lists Rejection → Stop → Type 0
 StopsText lists (Refused kind line) = lists ≡ Err (refused (record { line = line; kind = number kind }))
 StopsText lists (Exceeded limit) = lists ≡ Err (exceeded limit)
 StopsText lists ReadFault = ⊥
@@ -29,12 +29,12 @@ pub record IsLoaded (told : Type 0) (name : List ℕ) (limit : Limit) (lists : L
   pub few : pair_count lists ≤ most limit
   pub spelled : told → (bytes : List ℕ) × (old.content.file name ≡ Some bytes) × (within limit (lists_in bytes) ≡ Ok lists)
 
--- the file was read to its end, or further than its limit, and comes to a verdict
-pub record IsRejected (told : Type 0) (name : List ℕ) (limit : Limit) (verdict : Verdict) (old new : World) : Type 0 where
+-- the file was read to its end, or further than its limit, and is not taken
+pub record IsRejected (told : Type 0) (name : List ℕ) (limit : Limit) (rejection : Rejection) (old new : World) : Type 0 where
   pub only_read : OnlyRead told old new
   pub begun : new.begun ≡ put Instance Reading old.begun
-  pub out : told → (new.content.rest Instance ≡ []) ⊎ (verdict ≡ exceeded InstanceBytes)
-  pub due : told → (bytes : List ℕ) × (old.content.file name ≡ Some bytes) × (within limit (lists_in bytes) ≡ Err verdict)
+  pub out : told → (new.content.rest Instance ≡ []) ⊎ (rejection ≡ exceeded InstanceBytes)
+  pub due : told → (bytes : List ℕ) × (old.content.file name ≡ Some bytes) × (within limit (lists_in bytes) ≡ Err rejection)
 
 -- reading failed
 pub record FailedToRead (told : Type 0) (old new : World) : Type 0 where

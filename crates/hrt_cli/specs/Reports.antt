@@ -6,7 +6,7 @@ use Rattle.rank_tables.specs.Stability.{Best}
 use Rattle.hrt_reader.specs.Refusal.{Refusal}
 use Rattle.hrt_cli.specs.declared.limit.Limit.{Limit}
 use Rattle.hrt_cli.specs.Limits.{most, name_of}
-use Rattle.hrt_cli.specs.Verdicts.{Verdict, misused, refused, exceeded, solved}
+use Rattle.hrt_cli.specs.Verdicts.{Verdict, misused, rejected, refused, exceeded, solved}
 
 abbrev pub line : List ℕ → List ℕ
 line text = text ++ 10 ∷ []
@@ -54,6 +54,6 @@ pub record IsSolveReport (lists : Lists) (text : List ℕ) : Type 0 where
 
 abbrev pub IsReport : Verdict → List ℕ → Type 0
 IsReport misused text = text ≡ line (codes "words not understood")
-IsReport (refused r) text = text ≡ codes "instance refused line " ++ place_line r.line (kind_word r.kind)
-IsReport (exceeded limit) text = text ≡ limit_line limit
+IsReport (rejected (refused r)) text = text ≡ codes "instance refused line " ++ place_line r.line (kind_word r.kind)
+IsReport (rejected (exceeded limit)) text = text ≡ limit_line limit
 IsReport (solved lists) text = IsSolveReport lists text

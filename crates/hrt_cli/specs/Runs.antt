@@ -1,5 +1,5 @@
 -- How a run ends, and what stands after it.
-use Rattle.std.specs.Prelude.{◌≡◌, ◌≤◌, ◌↔◌, ℕ, List, [], take, Option, Some, None}
+use Rattle.std.specs.Prelude.{◌≡◌, ◌≤◌, ◌↔◌, ℕ, ◌==◌, ◌||◌, Bool, true, not, List, [], take, Option, Some, None}
 use Rattle.hrt_base.specs.declared.port.Port.{Port}
 use Rattle.hrt_base.specs.declared.port.Port.TheVariants.{Report}
 use Rattle.hrt_base.specs.declared.host.Begun.TheVariants.{Idle, Writing}
@@ -7,9 +7,13 @@ use Rattle.hrt_base.specs.Calls.{Rose}
 use Rattle.hrt_base.specs.World.{World, Content, port_no, put, appended, sealed}
 use Rattle.hrt_cli.specs.declared.status.Status.{Status}
 use Rattle.hrt_cli.specs.declared.status.Status.TheVariants.{Done, Misused, InstanceRefused, ReadFault, WriteFault, NoMemory, LimitExceeded}
+use Rattle.rank_tables.specs.Instance.{Lists}
+use Rattle.rank_tables.specs.Stability.{Best}
+use Rattle.hrt_reader.specs.Refusal.{Spells}
 use Rattle.hrt_cli.specs.Answers.{IsReadOut}
-use Rattle.hrt_cli.specs.Reports.{IsReport}
+use Rattle.hrt_cli.specs.Reports.{IsReport, solve_report}
 use Rattle.hrt_cli.specs.Requests.{Request}
+use Rattle.hrt_cli.specs.Statuses.{code_of}
 use Rattle.hrt_cli.specs.Verdicts.{Verdict, verdict_of, status_of}
 
 -- a text was written on the report, which was sealed
@@ -76,3 +80,36 @@ EndsAs told request Done old new = Reported told request Done old new
 EndsAs told request Misused old new = Reported told request Misused old new
 EndsAs told request InstanceRefused old new = Reported told request InstanceRefused old new
 EndsAs told request LimitExceeded old new = Reported told request LimitExceeded old new
+
+-- ---- what a run promises, by the code that it answers
+
+-- a code that comes with a report
+abbrev pub has_report : ℕ → Bool
+has_report n = not (n == 4 || n == 5 || n == 6)
+
+abbrev pub is_code : ℕ → Bool
+is_code n = n == 0 || n == 2 || n == 3 || n == 4 || n == 5 || n == 6 || n == 7
+
+-- the report was sent of what the words and the files come to, and the code is that of this verdict
+pub record IsDecided (request : Option Request) (n : ℕ) (old new : World) : Type 0 where
+  pub status : Status
+  pub code : n ≡ code_of status
+  pub reported : IsReported request status old new
+
+-- The code of the verdict that the words and the files come to, unless a call of the host failed or memory was wanting
+abbrev pub IsDue : Option Request → ℕ → World → Type 0
+IsDue request n old = (verdict : Verdict) → verdict_of request old.content.file ≡ Some verdict → has_report n ≡ true → n ≡ code_of (status_of verdict)
+
+-- the report lists the pairs of a best matching of the instance that the file spells
+pub record PrintsBest (instance : List ℕ) (old new : Content) : Type 0 where
+  pub bytes : List ℕ
+  pub file : old.file instance ≡ Some bytes
+  pub lists : Lists
+  pub spelled : Spells bytes lists
+  pub pairs : List ℕ
+  pub best : Best lists pairs
+  pub report : new.sent Report ≡ solve_report lists pairs
+
+-- every file is as it was
+abbrev pub KeepsFiles : Content → Content → Type 0
+KeepsFiles old new = (name : List ℕ) → new.file name ≡ old.file name

@@ -1,21 +1,21 @@
-//! The program: words, files, reports and statuses.
+//! The program over any host: the words, the files that are read, the reports, and the codes that it ends with.
 #![tactic(auto)]
 
 mod answer;
 mod input;
 mod limit;
 mod loading;
+mod program;
 mod report;
-mod run;
 mod solve;
 mod status;
 mod stop;
 mod words;
 
-pub use answer::{Answer, explain};
-pub use limit::Limit;
-pub use loading::load;
-pub use report::Report;
-pub use status::Status;
-pub use stop::{Ended, Stop};
-pub use words::{Command, command_of};
+use answer::{Answer, explain};
+use limit::Limit;
+pub use program::run;
+use report::Report;
+use status::Status;
+use stop::{Ended, Stop};
+use words::{Command, command_of};

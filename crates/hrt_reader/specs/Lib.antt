@@ -1,10 +1,10 @@
+pub mod Answer
+pub mod Kinds
+pub mod Numbered
+pub mod PairsAnswer
+pub mod PairsText
 pub mod Refusal
 pub mod Spelling
-pub mod Written
-pub mod Kinds
 pub mod Stages
 pub mod Survey
-pub mod Answer
-pub mod PairsText
-pub mod PairsAnswer
-pub mod Numbered
+pub mod Written

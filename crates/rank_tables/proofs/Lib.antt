@@ -12,5 +12,6 @@ pub mod Membership
 pub mod Numbers
 pub mod PairFacts
 pub mod Ranks
+pub mod StablePairs
 pub mod TableFacts
 pub mod Unique

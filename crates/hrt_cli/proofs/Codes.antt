@@ -1,0 +1,206 @@
+-- What the end of a run says of the code that it answers.
+use Rattle.std.proofs.Common.{◌≡◌, ◌⊎◌, ◌<◌, ◌≤◌, ℕ, Bool, true, false, not, ◌||◌, ◌==◌, nat_lt, List, Option, Some, None, Result, Ok, Err, length, refl, sym, ◌∙◌, ap, subst, arith, inl, inr, option_map, cond}
+use Rattle.hrt_base.specs.declared.port.Port.{Port}
+use Rattle.hrt_base.specs.declared.port.Port.TheVariants.{Report}
+use Rattle.hrt_base.specs.declared.host.Begun.TheVariants.{Writing}
+use Rattle.hrt_base.specs.Calls.{Rose}
+use Rattle.hrt_base.specs.World.{World, Content}
+use Rattle.rank_tables.specs.Instance.{Lists, pair_count}
+use Rattle.hrt_text.specs.Text.{rows}
+use Rattle.hrt_reader.specs.Refusal.{Refusal, Spells, refusal, lists_of_rows}
+use Rattle.hrt_cli.specs.declared.limit.Limit.{Limit}
+use Rattle.hrt_cli.specs.declared.limit.Limit.TheVariants.{Residents, Hospitals, TriedPairs, InstanceBytes}
+use Rattle.hrt_cli.specs.declared.status.Status.{Status}
+use Rattle.hrt_cli.specs.declared.status.Status.TheVariants.{Done, Misused, InstanceRefused, ReadFault, WriteFault, NoMemory, LimitExceeded}
+use Rattle.hrt_cli.specs.Limits.{most}
+use Rattle.hrt_cli.specs.Reports.{IsReport, IsSolveReport}
+use Rattle.hrt_cli.specs.Requests.{Request, solve}
+use Rattle.hrt_cli.specs.Runs.{EndsAs, IsCutShort, IsDecided, IsDue, IsReported, Reported, KeepsFiles, PrintsBest, SendsNothing, has_report, is_code}
+use Rattle.hrt_cli.specs.Statuses.{code_of}
+use Rattle.hrt_cli.specs.Verdicts.{Rejection, Verdict, misused, refused, exceeded, rejected, solved, due as due_for, lists_in, solve_verdict, status_of, unless_refused, verdict_of, within}
+
+pub read_fault : (told : Type 0) (request : Option Request) (status : Status) (old new : World) → EndsAs told request status old new → code_of status ≡ 4
+    → Rose old.read_faults new.read_faults
+read_fault told request ReadFault old new ends e = ends.rose
+read_fault told request WriteFault old new ends e = absurd (cc)
+read_fault told request NoMemory old new ends e = absurd (cc)
+read_fault told request Done old new ends e = absurd (cc)
+read_fault told request Misused old new ends e = absurd (cc)
+read_fault told request InstanceRefused old new ends e = absurd (cc)
+read_fault told request LimitExceeded old new ends e = absurd (cc)
+
+pub write_fault : (told : Type 0) (request : Option Request) (status : Status) (old new : World) → EndsAs told request status old new → code_of status ≡ 5
+    → Rose old.write_faults new.write_faults
+write_fault told request WriteFault old new ends e = ends.rose
+write_fault told request ReadFault old new ends e = absurd (cc)
+write_fault told request NoMemory old new ends e = absurd (cc)
+write_fault told request Done old new ends e = absurd (cc)
+write_fault told request Misused old new ends e = absurd (cc)
+write_fault told request InstanceRefused old new ends e = absurd (cc)
+write_fault told request LimitExceeded old new ends e = absurd (cc)
+
+pub after_read_fault : (told : Type 0) (request : Option Request) (status : Status) (old new : World) → EndsAs told request status old new → told → code_of status ≡ 4
+    → SendsNothing old.content new.content
+after_read_fault told request ReadFault old new ends t e = ends.nothing t
+after_read_fault told request WriteFault old new ends t e = absurd (cc)
+after_read_fault told request NoMemory old new ends t e = absurd (cc)
+after_read_fault told request Done old new ends t e = absurd (cc)
+after_read_fault told request Misused old new ends t e = absurd (cc)
+after_read_fault told request InstanceRefused old new ends t e = absurd (cc)
+after_read_fault told request LimitExceeded old new ends t e = absurd (cc)
+
+pub after_write_fault : (told : Type 0) (request : Option Request) (status : Status) (old new : World) → EndsAs told request status old new → told → code_of status ≡ 5
+    → IsCutShort request old new
+after_write_fault told request WriteFault old new ends t e = ends.cut_short t
+after_write_fault told request ReadFault old new ends t e = absurd (cc)
+after_write_fault told request NoMemory old new ends t e = absurd (cc)
+after_write_fault told request Done old new ends t e = absurd (cc)
+after_write_fault told request Misused old new ends t e = absurd (cc)
+after_write_fault told request InstanceRefused old new ends t e = absurd (cc)
+after_write_fault told request LimitExceeded old new ends t e = absurd (cc)
+
+pub after_no_memory : (told : Type 0) (request : Option Request) (status : Status) (old new : World) → EndsAs told request status old new → told → code_of status ≡ 6
+    → SendsNothing old.content new.content
+after_no_memory told request NoMemory old new ends t e = ends.nothing t
+after_no_memory told request ReadFault old new ends t e = absurd (cc)
+after_no_memory told request WriteFault old new ends t e = absurd (cc)
+after_no_memory told request Done old new ends t e = absurd (cc)
+after_no_memory told request Misused old new ends t e = absurd (cc)
+after_no_memory told request InstanceRefused old new ends t e = absurd (cc)
+after_no_memory told request LimitExceeded old new ends t e = absurd (cc)
+
+-- a code with a report comes of a report
+reported : (told : Type 0) (request : Option Request) (status : Status) (old new : World) → EndsAs told request status old new → has_report (code_of status) ≡ true
+    → Reported told request status old new
+reported told request Done old new ends has = ends
+reported told request Misused old new ends has = ends
+reported told request InstanceRefused old new ends has = ends
+reported told request LimitExceeded old new ends has = ends
+reported told request ReadFault old new ends has = absurd (cc)
+reported told request WriteFault old new ends has = absurd (cc)
+reported told request NoMemory old new ends has = absurd (cc)
+
+pub decided : (told : Type 0) (request : Option Request) (status : Status) (old new : World) → EndsAs told request status old new → told → has_report (code_of status) ≡ true
+    → IsDecided request (code_of status) old new
+decided told request status old new ends t has =
+    record { status = status; code = refl; reported = (reported told request status old new ends has).reported t }
+
+some_is : {A : Type 0} (a b : A) → Some a ≡ Some b → a ≡ b
+some_is a b e = cc
+
+pub due : (told : Type 0) (request : Option Request) (status : Status) (old new : World) → EndsAs told request status old new → told → IsDue request (code_of status) old
+due told request status old new ends t verdict is has =
+    let told_of = (reported told request status old new ends has).reported t in
+    let same : told_of.verdict ≡ verdict = some_is told_of.verdict verdict (sym told_of.due ∙ is) in
+    ap code_of (told_of.answered ∙ ap status_of same)
+
+pub closed : (told : Type 0) (request : Option Request) (status : Status) (old new : World) → EndsAs told request status old new → has_report (code_of status) ≡ true
+    → (port : Port) → new.begun port ≡ Writing → ⊥
+closed told request status old new ends has = (reported told request status old new ends has).closed
+
+pub misused_code : (told : Type 0) (request : Option Request) (status : Status) (old new : World) → EndsAs told request status old new → code_of status ≡ 2 → request ≡ None
+misused_code told request Misused old new ends e = ends.understood.0 refl
+misused_code told request Done old new ends e = absurd (cc)
+misused_code told request InstanceRefused old new ends e = absurd (cc)
+misused_code told request ReadFault old new ends e = absurd (cc)
+misused_code told request WriteFault old new ends e = absurd (cc)
+misused_code told request NoMemory old new ends e = absurd (cc)
+misused_code told request LimitExceeded old new ends e = absurd (cc)
+
+pub understood_code : (told : Type 0) (request : Option Request) (status : Status) (old new : World) → EndsAs told request status old new → request ≡ None
+    → (code_of status ≡ 2) ⊎ (code_of status ≡ 5)
+understood_code told request Misused old new ends e = inl refl
+understood_code told request WriteFault old new ends e = inr refl
+understood_code told request Done old new ends e = inl (ap code_of (ends.understood.1 e))
+understood_code told request InstanceRefused old new ends e = inl (ap code_of (ends.understood.1 e))
+understood_code told request LimitExceeded old new ends e = inl (ap code_of (ends.understood.1 e))
+understood_code told request ReadFault old new ends e = absurd (ends.understood e)
+understood_code told request NoMemory old new ends e = absurd (ends.understood e)
+
+pub files_kept : (told : Type 0) (request : Option Request) (status : Status) (old new : World) → EndsAs told request status old new → told → KeepsFiles old.content new.content
+files_kept told request ReadFault old new ends t = (ends.nothing t).files
+files_kept told request NoMemory old new ends t = (ends.nothing t).files
+files_kept told request WriteFault old new ends t = (ends.cut_short t).alone.files
+files_kept told request Done old new ends t = (ends.reported t).alone.files
+files_kept told request Misused old new ends t = (ends.reported t).alone.files
+files_kept told request InstanceRefused old new ends t = (ends.reported t).alone.files
+files_kept told request LimitExceeded old new ends t = (ends.reported t).alone.files
+
+pub known : (status : Status) → is_code (code_of status) ≡ true
+known Done = refl
+known Misused = refl
+known InstanceRefused = refl
+known ReadFault = refl
+known WriteFault = refl
+known NoMemory = refl
+known LimitExceeded = refl
+
+-- ---- the printed pairs
+
+abbrev taken_as : Lists → Result Lists Rejection
+taken_as lists = Ok lists
+
+ok_is : (a b : Lists) → taken_as a ≡ taken_as b → a ≡ b
+ok_is a b e = cc
+
+none_refused : (r : Option Refusal) (lists found : Lists) → unless_refused r lists ≡ Ok found → r ≡ None
+none_refused None lists found e = refl
+none_refused (Some r) lists found e = absurd (by (r.kind == 11) (r.kind == 12) e)
+  where
+    by : (a b : Bool) → cond {A = Result Lists Rejection} a (Err (exceeded Residents)) (cond b (Err (exceeded Hospitals)) (Err (refused r))) ≡ Ok found → ⊥
+    by true b h = absurd (cc)
+    by false true h = absurd (cc)
+    by false false h = absurd (cc)
+
+-- lists that are taken are those that the text spells
+spelled : (bytes : List ℕ) (found : Lists) → lists_in bytes ≡ Ok found → Spells bytes found
+spelled bytes found e = by (nat_lt (most InstanceBytes) (length bytes)) e
+  where
+    unrefused : unless_refused (refusal (rows bytes)) (lists_of_rows (rows bytes)) ≡ Ok found → Spells bytes found
+    unrefused h =
+        let none = none_refused (refusal (rows bytes)) (lists_of_rows (rows bytes)) found h in
+        record { accepted = none; says = ok_is (lists_of_rows (rows bytes)) found (ap (λ (r : Option Refusal). unless_refused r (lists_of_rows (rows bytes))) (sym none) ∙ h) }
+    by : (b : Bool) → cond {A = Result Lists Rejection} b (Err (exceeded InstanceBytes)) (unless_refused (refusal (rows bytes)) (lists_of_rows (rows bytes))) ≡ Ok found → Spells bytes found
+    by true h = absurd (cc)
+    by false h = unrefused h
+
+-- and a verdict of best pairs comes of lists that are taken
+taken : (r : Result Lists Rejection) (found : Lists) → due_for (within TriedPairs r) solved ≡ solved found → r ≡ Ok found
+taken (Err rejection) found e = absurd (cc)
+taken (Ok lists) found e = by (nat_lt (most TriedPairs) (pair_count lists)) e
+  where
+    by : (b : Bool) → due_for (cond {A = Result Lists Rejection} b (Err (exceeded TriedPairs)) (Ok lists)) solved ≡ solved found → taken_as lists ≡ taken_as found
+    by true h = absurd (cc)
+    by false h = cc
+
+-- the verdict on the bytes of a file
+pub record IsSpelledIn (file : Option (List ℕ)) (lists : Lists) : Type 0 where
+  pub bytes : List ℕ
+  pub is_file : file ≡ Some bytes
+  pub spells : Spells bytes lists
+
+spelled_in : (file : Option (List ℕ)) (lists : Lists) → option_map solve_verdict file ≡ Some (solved lists) → IsSpelledIn file lists
+spelled_in None lists e = absurd (cc)
+spelled_in (Some bytes) lists e = record {
+  bytes = bytes;
+  is_file = refl;
+  spells = spelled bytes lists (taken (lists_in bytes) lists (some_is (solve_verdict bytes) (solved lists) e));
+}
+
+prints_best : (instance : List ℕ) (old new : World) (verdict : Verdict) → verdict_of (Some (solve instance)) old.content.file ≡ Some verdict → code_of (status_of verdict) ≡ 0
+    → IsReport verdict (new.content.sent Report) → PrintsBest instance old.content new.content
+prints_best instance old new misused due e report = absurd (cc)
+prints_best instance old new (rejected (refused r)) due e report = absurd (cc)
+prints_best instance old new (rejected (exceeded limit)) due e report = absurd (cc)
+prints_best instance old new (solved lists) due e report =
+    let file = spelled_in (old.content.file instance) lists due in
+    record { bytes = file.bytes; file = file.is_file; lists = lists; spelled = file.spells; pairs = report.pairs; best = report.best; report = report.is_report }
+
+zero_has_report : (n : ℕ) → n ≡ 0 → has_report n ≡ true
+zero_has_report n e = ap has_report e
+
+pub best : (told : Type 0) (request : Option Request) (status : Status) (old new : World) → EndsAs told request status old new → told → code_of status ≡ 0
+    → (instance : List ℕ) → request ≡ Some (solve instance) → PrintsBest instance old.content new.content
+best told request status old new ends t e instance is =
+    let told_of = (reported told request status old new ends (zero_has_report (code_of status) e)).reported t in
+    prints_best instance old new told_of.verdict (ap (λ (r : Option Request). verdict_of r old.content.file) (sym is) ∙ told_of.due) (ap code_of (sym told_of.answered) ∙ e) told_of.report

@@ -1,0 +1,4 @@
+mod Codes
+mod Ports
+mod Runs
+mod Solving

@@ -1,0 +1,18 @@
+use Rattle.std.proofs.Common.{rules, Option, List, ℕ, refl, subst}
+use Rattle.hrt_base.specs.declared.port.Port.TheVariants.{Report}
+use Rattle.hrt_base.specs.Calls.{SentPart}
+use Rattle.hrt_cli.specs.Requests.{Request}
+use Rattle.hrt_cli.specs.Runs.{CutShort}
+use Rattle.hrt_cli.proofs.Runs.{cut_short, misused_cut}
+use Rattle.hrt_cli.proofs.program.carry_out.Goals as goal
+
+pub returns-in-Err : goal.returns-in-Err
+returns-in-Err g c =
+    subst (λ (r : Option Request). CutShort g.H.Host.told r (g.H.Host.world c.args.host.now) (g.H.Host.world c.send.new.host)) c.in_default.ensures
+    (misused_cut _ _ _ _ c.requires refl c.in-Err.ensures.failed)
+
+pub returns-in-Ok-answer_to : goal.returns-in-Ok-answer_to
+returns-in-Ok-answer_to g c =
+    let part = subst (λ (l : List ℕ). SentPart g.H.Host.told Report l (g.H.Host.world c.answer_to.new.host) (g.H.Host.world c.send-in-Ok-answer_to.new.host)) c.as_bytes.ensures c.in-Err-send.ensures.failed in
+    subst (λ (r : Option Request). CutShort g.H.Host.told r (g.H.Host.world c.args.host.now) (g.H.Host.world c.send-in-Ok-answer_to.new.host)) c.in-Some.ensures
+    (cut_short _ _ _ _ _ _ c.requires c.in-Ok-answer_to.ensures.answered part)

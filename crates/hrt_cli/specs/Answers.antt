@@ -1,0 +1,74 @@
+-- What a run answers for a verdict.
+use Rattle.std.specs.Prelude.{◌≡◌, ◌⊎◌, ℕ, Bool, true, false, IsTrue, List, [], Option, Some}
+use Rattle.hrt_base.specs.declared.port.Port.{Port}
+use Rattle.hrt_base.specs.declared.port.Port.TheVariants.{Instance, Pairs, Model, Proof, Report, ModelTwo, ProofTwo}
+use Rattle.hrt_base.specs.declared.host.Begun.TheVariants.{Reading}
+use Rattle.hrt_base.specs.Calls.{Rose}
+use Rattle.hrt_base.specs.World.{World}
+use Rattle.hrt_reader.specs.Kinds.{number}
+use Rattle.hrt_cli.specs.declared.limit.Limit.TheVariants.{InstanceBytes, PairsBytes}
+use Rattle.hrt_cli.specs.declared.answer.Answer.{Answer}
+use Rattle.hrt_cli.specs.declared.status.Status.{Status}
+use Rattle.hrt_cli.specs.declared.status.Status.TheVariants as status
+use Rattle.hrt_cli.specs.declared.stop.Stop.{Stop}
+use Rattle.hrt_cli.specs.declared.stop.Stop.TheVariants.{Refused, Exceeded, ReadFault, NoMemory}
+use Rattle.hrt_cli.specs.declared.stop.Ended.{Ended}
+use Rattle.hrt_cli.specs.declared.stop.Ended.TheVariants as ended
+use Rattle.hrt_cli.specs.Inputs.{OnlyRead}
+use Rattle.hrt_cli.specs.Loading.{FailedToRead}
+use Rattle.hrt_cli.specs.Reports.{IsReport}
+use Rattle.hrt_cli.specs.Requests.{Request}
+use Rattle.hrt_cli.specs.Verdicts.{Verdict, rejected, refused, exceeded, verdict_of, status_of}
+
+-- a status that tells a verdict on the files
+abbrev pub is_on_files : Status → Bool
+is_on_files status.Done = true
+is_on_files status.Misused = false
+is_on_files status.InstanceRefused = true
+is_on_files status.ReadFault = false
+is_on_files status.WriteFault = false
+is_on_files status.NoMemory = false
+is_on_files status.LimitExceeded = true
+
+-- the status and the report of a verdict
+pub record IsAnswer (verdict : Verdict) (answer : Answer) : Type 0 where
+  pub status : answer.status ≡ status_of verdict
+  pub report : IsReport verdict answer.report
+
+-- an answer tells why there was a stop
+abbrev pub Explains : Stop → Answer → Type 0
+Explains (Refused kind line) answer = IsAnswer (rejected (refused (record { line = line; kind = number kind }))) answer
+Explains (Exceeded limit) answer = IsAnswer (rejected (exceeded limit)) answer
+Explains ReadFault answer = ⊥
+Explains NoMemory answer = ⊥
+
+-- a stop that isn't explained ends the run
+abbrev pub EndsFor : Stop → Ended → Type 0
+EndsFor stop ended.ReadFault = stop ≡ ReadFault
+EndsFor stop ended.WriteFault = ⊥
+EndsFor stop ended.NoMemory = Unit {0}
+
+-- Each port that was begun for reading was read to its end, but for the one whose length limit was passed.
+abbrev pub PassedAt : Verdict → Port → Type 0
+PassedAt verdict Instance = verdict ≡ rejected (exceeded InstanceBytes)
+PassedAt verdict Pairs = verdict ≡ rejected (exceeded PairsBytes)
+PassedAt verdict Model = ⊥
+PassedAt verdict Proof = ⊥
+PassedAt verdict Report = ⊥
+PassedAt verdict ModelTwo = ⊥
+PassedAt verdict ProofTwo = ⊥
+
+abbrev pub IsReadOut : Verdict → World → Type 0
+IsReadOut verdict w = (port : Port) → w.begun port ≡ Reading → (w.content.rest port ≡ []) ⊎ PassedAt verdict port
+
+-- the words and the files come to this answer, and nothing but reading was done
+pub record IsAnswered (told : Type 0) (request : Option Request) (answer : Answer) (old new : World) : Type 0 where
+  pub only_read : OnlyRead told old new
+  pub on_files : IsTrue (is_on_files answer.status)
+  pub due : told → (verdict : Verdict) × (verdict_of request old.content.file ≡ Some verdict) × IsAnswer verdict answer × IsReadOut verdict new
+
+-- a run was given up before its report
+abbrev pub GivesUp : (told : Type 0) → Ended → World → World → Type 0
+GivesUp told ended.ReadFault old new = FailedToRead told old new
+GivesUp told ended.WriteFault old new = ⊥
+GivesUp told ended.NoMemory old new = OnlyRead told old new

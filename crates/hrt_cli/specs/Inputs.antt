@@ -1,0 +1,30 @@
+-- What reading files does to a host.
+use Rattle.std.specs.Prelude.{◌≡◌, ◌≤◌, ◌<◌, ◌↔◌, ℕ, List, [], length, Some}
+use Rattle.hrt_base.specs.declared.port.Port.{Port}
+use Rattle.hrt_base.specs.declared.host.Begun.TheVariants.{Reading, Writing}
+use Rattle.hrt_base.specs.World.{World, Content, put, with_rest}
+
+-- the content but for what is left to read
+abbrev pub but_for_rest : Content → Content → Content
+but_for_rest old new = record { name = old.name; rest = new.rest; sent = old.sent; file = old.file }
+
+-- Nothing but reading was done. Whatever port is begun for writing was so before.
+pub record OnlyRead (told : Type 0) (old new : World) : Type 0 where
+  pub later : old.read_faults ≤ new.read_faults
+  pub write_faults : new.write_faults ≡ old.write_faults
+  pub writers : (p : Port) → (new.begun p ≡ Writing) ↔ (old.begun p ≡ Writing)
+  pub content : told → new.content ≡ but_for_rest old.content new.content
+
+-- a file was read to its end on a port
+pub record WasRead (told : Type 0) (port : Port) (name bytes : List ℕ) (old new : World) : Type 0 where
+  pub only_read : OnlyRead told old new
+  pub begun : new.begun ≡ put port Reading old.begun
+  pub file : told → old.content.file name ≡ Some bytes
+  pub content : told → new.content ≡ with_rest port [] old.content
+
+-- a file has more bytes than the limit, and was left unread behind it
+pub record IsTooLong (told : Type 0) (port : Port) (name : List ℕ) (limit : ℕ) (old new : World) : Type 0 where
+  pub only_read : OnlyRead told old new
+  pub begun : new.begun ≡ put port Reading old.begun
+  pub file : told → (bytes : List ℕ) × (old.content.file name ≡ Some bytes) × (limit < length bytes)
+  pub content : told → new.content ≡ with_rest port (new.content.rest port) old.content

@@ -1,0 +1,9 @@
+pub mod Answers
+pub mod Inputs
+pub mod Limits
+pub mod Loading
+pub mod Reports
+pub mod Requests
+pub mod Runs
+pub mod Statuses
+pub mod Verdicts

@@ -1,0 +1,48 @@
+-- What the loading of an instance comes to.
+use Rattle.std.specs.Prelude.{◌≡◌, ◌≤◌, ◌⊎◌, ℕ, List, [], Some, Result, Ok, Err}
+use Rattle.hrt_base.specs.declared.port.Port.TheVariants.{Instance}
+use Rattle.hrt_base.specs.declared.host.Begun.TheVariants.{Reading}
+use Rattle.hrt_base.specs.Calls.{Rose}
+use Rattle.hrt_base.specs.World.{World, put, with_rest}
+use Rattle.rank_tables.specs.Instance.{Lists, pair_count}
+use Rattle.hrt_reader.specs.Kinds.{number}
+use Rattle.hrt_cli.specs.declared.limit.Limit.{Limit}
+use Rattle.hrt_cli.specs.declared.limit.Limit.TheVariants.{InstanceBytes}
+use Rattle.hrt_cli.specs.declared.stop.Stop.{Stop}
+use Rattle.hrt_cli.specs.declared.stop.Stop.TheVariants.{Refused, Exceeded, ReadFault, NoMemory}
+use Rattle.hrt_cli.specs.Inputs.{OnlyRead}
+use Rattle.hrt_cli.specs.Limits.{most}
+use Rattle.hrt_cli.specs.Verdicts.{Rejection, refused, exceeded, lists_in, within}
+
+-- the lists of a text could not be had, and this is why
+abbrev pub StopsText : Result Lists Rejection → Stop → Type 0
+StopsText lists (Refused kind line) = lists ≡ Err (refused (record { line = line; kind = number kind }))
+StopsText lists (Exceeded limit) = lists ≡ Err (exceeded limit)
+StopsText lists ReadFault = ⊥
+StopsText lists NoMemory = Unit {0}
+
+-- the file was read to its end and spells these lists, of no more pairs than the limit
+pub record IsLoaded (told : Type 0) (name : List ℕ) (limit : Limit) (lists : Lists) (old new : World) : Type 0 where
+  pub only_read : OnlyRead told old new
+  pub begun : new.begun ≡ put Instance Reading old.begun
+  pub content : told → new.content ≡ with_rest Instance [] old.content
+  pub few : pair_count lists ≤ most limit
+  pub spelled : told → (bytes : List ℕ) × (old.content.file name ≡ Some bytes) × (within limit (lists_in bytes) ≡ Ok lists)
+
+-- the file was read to its end, or further than its limit, and is not taken
+pub record IsRejected (told : Type 0) (name : List ℕ) (limit : Limit) (rejection : Rejection) (old new : World) : Type 0 where
+  pub only_read : OnlyRead told old new
+  pub begun : new.begun ≡ put Instance Reading old.begun
+  pub out : told → (new.content.rest Instance ≡ []) ⊎ (rejection ≡ exceeded InstanceBytes)
+  pub due : told → (bytes : List ℕ) × (old.content.file name ≡ Some bytes) × (within limit (lists_in bytes) ≡ Err rejection)
+
+-- reading failed
+pub record FailedToRead (told : Type 0) (old new : World) : Type 0 where
+  pub only_read : OnlyRead told old new
+  pub rose : Rose old.read_faults new.read_faults
+
+abbrev pub StopsLoading : (told : Type 0) → List ℕ → Limit → Stop → World → World → Type 0
+StopsLoading told name limit (Refused kind line) old new = IsRejected told name limit (refused (record { line = line; kind = number kind })) old new
+StopsLoading told name limit (Exceeded what) old new = IsRejected told name limit (exceeded what) old new
+StopsLoading told name limit ReadFault old new = FailedToRead told old new
+StopsLoading told name limit NoMemory old new = OnlyRead told old new

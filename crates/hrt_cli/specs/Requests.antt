@@ -1,0 +1,33 @@
+-- What the words ask for.
+use Rattle.std.specs.Prelude.{Bool, false, not, ◌&&◌, ◌==◌, ℕ, List, [], ◌∷◌, Option, Some, None, if◌then◌else◌, map, option_map, codes, bytes_eq, String, string_bytes}
+use Rattle.std.specs.Global.{Global}
+use Rattle.hrt_cli.specs.declared.words.Command.{Command}
+use Rattle.hrt_cli.specs.declared.words.Command.TheVariants.{Solve}
+
+-- a command with the names of its files
+pub data Request : Type 0 where
+  solve : List ℕ → Request  -- the instance
+
+-- a name of a file isn't empty and doesn't begin with `-`
+abbrev pub is_file_name : List ℕ → Bool
+is_file_name [] = false
+is_file_name (b ∷ bytes) = not (b == 45)
+
+abbrev pub one_file : List (List ℕ) → Option (List ℕ)
+one_file (file ∷ []) = if is_file_name file then Some file else None
+one_file _ = None
+
+-- the words are a command and exactly its files
+abbrev pub request_of : List (List ℕ) → Option Request
+request_of [] = None
+request_of (word ∷ files) =
+    if bytes_eq word (codes "solve") then option_map solve (one_file files)
+    else None
+
+-- the bytes of words
+abbrev pub texts_of : List (String Global) → List (List ℕ)
+texts_of words = map string_bytes words
+
+-- what the code's command asks for
+abbrev pub asked_by : Command → Request
+asked_by (Solve instance) = solve instance.now

@@ -1,0 +1,115 @@
+-- How a run ends, and what stands after it.
+use Rattle.std.specs.Prelude.{◌≡◌, ◌≤◌, ◌↔◌, ℕ, ◌==◌, ◌||◌, Bool, true, not, List, [], take, Option, Some, None}
+use Rattle.hrt_base.specs.declared.port.Port.{Port}
+use Rattle.hrt_base.specs.declared.port.Port.TheVariants.{Report}
+use Rattle.hrt_base.specs.declared.host.Begun.TheVariants.{Idle, Writing}
+use Rattle.hrt_base.specs.Calls.{Rose}
+use Rattle.hrt_base.specs.World.{World, Content, port_no, put, appended, sealed}
+use Rattle.hrt_cli.specs.declared.status.Status.{Status}
+use Rattle.hrt_cli.specs.declared.status.Status.TheVariants.{Done, Misused, InstanceRefused, ReadFault, WriteFault, NoMemory, LimitExceeded}
+use Rattle.rank_tables.specs.Instance.{Lists}
+use Rattle.rank_tables.specs.Stability.{Best}
+use Rattle.hrt_reader.specs.Refusal.{Spells}
+use Rattle.hrt_cli.specs.Answers.{IsReadOut}
+use Rattle.hrt_cli.specs.Reports.{IsReport, solve_report}
+use Rattle.hrt_cli.specs.Requests.{Request}
+use Rattle.hrt_cli.specs.Statuses.{code_of}
+use Rattle.hrt_cli.specs.Verdicts.{Verdict, verdict_of, status_of}
+
+-- a text was written on the report, which was sealed
+pub record IsSentWhole (told : Type 0) (text : List ℕ) (old new : World) : Type 0 where
+  pub later : old.write_faults ≤ new.write_faults
+  pub read_faults : new.read_faults ≡ old.read_faults
+  pub begun : new.begun ≡ put Report Idle old.begun
+  pub content : told → new.content ≡ sealed Report (appended Report text old.content)
+
+-- nothing was sent but on the report, and the files are as they were
+pub record ReportsAlone (old new : Content) : Type 0 where
+  pub sent : (port : Port) → (port_no port ≡ port_no Report → ⊥) → new.sent port ≡ []
+  pub files : (name : List ℕ) → new.file name ≡ old.file name
+
+-- nothing was sent, and the files are as they were
+pub record SendsNothing (old new : Content) : Type 0 where
+  pub sent : (port : Port) → new.sent port ≡ []
+  pub files : (name : List ℕ) → new.file name ≡ old.file name
+
+-- the report of what the words and the files come to was sent whole
+pub record IsReported (request : Option Request) (status : Status) (old new : World) : Type 0 where
+  pub verdict : Verdict
+  pub due : verdict_of request old.content.file ≡ Some verdict
+  pub answered : status ≡ status_of verdict
+  pub report : IsReport verdict (new.content.sent Report)
+  pub read_out : IsReadOut verdict new
+  pub alone : ReportsAlone old.content new.content
+
+-- a front of such a report was sent
+pub record IsCutShort (request : Option Request) (old new : World) : Type 0 where
+  pub verdict : Verdict
+  pub due : verdict_of request old.content.file ≡ Some verdict
+  pub text : List ℕ
+  pub report : IsReport verdict text
+  pub count : ℕ
+  pub front : new.content.sent Report ≡ take count text
+  pub read_out : IsReadOut verdict new
+  pub alone : ReportsAlone old.content new.content
+
+pub record Reported (told : Type 0) (request : Option Request) (status : Status) (old new : World) : Type 0 where
+  pub understood : (status ≡ Misused) ↔ (request ≡ None)
+  pub closed : (port : Port) → new.begun port ≡ Writing → ⊥
+  pub reported : told → IsReported request status old new
+
+pub record CutShort (told : Type 0) (request : Option Request) (old new : World) : Type 0 where
+  pub rose : Rose old.write_faults new.write_faults
+  pub cut_short : told → IsCutShort request old new
+
+pub record Unread (told : Type 0) (request : Option Request) (old new : World) : Type 0 where
+  pub understood : request ≡ None → ⊥
+  pub rose : Rose old.read_faults new.read_faults
+  pub nothing : told → SendsNothing old.content new.content
+
+pub record OutOfMemory (told : Type 0) (request : Option Request) (old new : World) : Type 0 where
+  pub understood : request ≡ None → ⊥
+  pub nothing : told → SendsNothing old.content new.content
+
+-- how a run ends, by its status
+abbrev pub EndsAs : (told : Type 0) → Option Request → Status → World → World → Type 0
+EndsAs told request ReadFault old new = Unread told request old new
+EndsAs told request WriteFault old new = CutShort told request old new
+EndsAs told request NoMemory old new = OutOfMemory told request old new
+EndsAs told request Done old new = Reported told request Done old new
+EndsAs told request Misused old new = Reported told request Misused old new
+EndsAs told request InstanceRefused old new = Reported told request InstanceRefused old new
+EndsAs told request LimitExceeded old new = Reported told request LimitExceeded old new
+
+-- ---- what a run promises, by the code that it answers
+
+-- a code that comes with a report
+abbrev pub has_report : ℕ → Bool
+has_report n = not (n == 4 || n == 5 || n == 6)
+
+abbrev pub is_code : ℕ → Bool
+is_code n = n == 0 || n == 2 || n == 3 || n == 4 || n == 5 || n == 6 || n == 7
+
+-- the report was sent of what the words and the files come to, and the code is that of this verdict
+pub record IsDecided (request : Option Request) (n : ℕ) (old new : World) : Type 0 where
+  pub status : Status
+  pub code : n ≡ code_of status
+  pub reported : IsReported request status old new
+
+-- The code of the verdict that the words and the files come to, unless a call of the host failed or memory was wanting
+abbrev pub IsDue : Option Request → ℕ → World → Type 0
+IsDue request n old = (verdict : Verdict) → verdict_of request old.content.file ≡ Some verdict → has_report n ≡ true → n ≡ code_of (status_of verdict)
+
+-- the report lists the pairs of a best matching of the instance that the file spells
+pub record PrintsBest (instance : List ℕ) (old new : Content) : Type 0 where
+  pub bytes : List ℕ
+  pub file : old.file instance ≡ Some bytes
+  pub lists : Lists
+  pub spelled : Spells bytes lists
+  pub pairs : List ℕ
+  pub best : Best lists pairs
+  pub report : new.sent Report ≡ solve_report lists pairs
+
+-- every file is as it was
+abbrev pub KeepsFiles : Content → Content → Type 0
+KeepsFiles old new = (name : List ℕ) → new.file name ≡ old.file name

@@ -1,0 +1,61 @@
+-- What a run comes to, as far as the words and the files decide it.
+use Rattle.std.specs.Prelude.{◌≡◌, ℕ, ◌==◌, nat_lt, if◌then◌else◌, List, length, Option, Some, None, Result, Ok, Err, option_map}
+use Rattle.rank_tables.specs.Instance.{Lists, pair_count}
+use Rattle.hrt_text.specs.Text.{rows}
+use Rattle.hrt_reader.specs.Refusal.{Refusal, refusal, lists_of_rows}
+use Rattle.hrt_cli.specs.declared.limit.Limit.{Limit}
+use Rattle.hrt_cli.specs.declared.limit.Limit.TheVariants.{Residents, Hospitals, Pairs, TriedPairs, InstanceBytes, PairsBytes}
+use Rattle.hrt_cli.specs.declared.status.Status.{Status}
+use Rattle.hrt_cli.specs.declared.status.Status.TheVariants.{Done, Misused, InstanceRefused, LimitExceeded}
+use Rattle.hrt_cli.specs.Limits.{most}
+use Rattle.hrt_cli.specs.Requests.{Request, solve}
+
+-- why a file isn't taken
+pub data Rejection : Type 0 where
+  refused : Refusal → Rejection  -- it spells no instance, with the line and the kind
+  exceeded : Limit → Rejection  -- there is too much of something
+
+pub data Verdict : Type 0 where
+  misused : Verdict  -- the words ask for nothing
+  rejected : Rejection → Verdict  -- a file isn't taken
+  solved : Lists → Verdict  -- the pairs of a best matching are due
+
+-- the files by their names
+abbrev pub Files : Type 0
+Files = List ℕ → Option (List ℕ)
+
+-- the lists, unless they are refused
+abbrev pub unless_refused : Option Refusal → Lists → Result Lists Rejection
+unless_refused None lists = Ok lists
+unless_refused (Some r) lists =
+    if r.kind == 11 then Err (exceeded Residents) else if r.kind == 12 then Err (exceeded Hospitals) else Err (refused r)
+
+-- the lists that the bytes of an instance spell, or why they are not taken
+abbrev pub lists_in : List ℕ → Result Lists Rejection
+lists_in bytes =
+    if nat_lt (most InstanceBytes) (length bytes) then Err (exceeded InstanceBytes)
+    else unless_refused (refusal (rows bytes)) (lists_of_rows (rows bytes))
+
+-- the lists, unless they have more pairs than the limit
+abbrev pub within : Limit → Result Lists Rejection → Result Lists Rejection
+within limit (Err rejection) = Err rejection
+within limit (Ok lists) = if nat_lt (most limit) (pair_count lists) then Err (exceeded limit) else Ok lists
+
+-- what is due for the lists, unless the file isn't taken
+abbrev pub due : Result Lists Rejection → (Lists → Verdict) → Verdict
+due (Err rejection) f = rejected rejection
+due (Ok lists) f = f lists
+
+abbrev pub solve_verdict : List ℕ → Verdict
+solve_verdict bytes = due (within TriedPairs (lists_in bytes)) solved
+
+-- None where a file that is read is absent
+abbrev pub verdict_of : Option Request → Files → Option Verdict
+verdict_of None files = Some misused
+verdict_of (Some (solve instance)) files = option_map solve_verdict (files instance)
+
+abbrev pub status_of : Verdict → Status
+status_of (solved lists) = Done
+status_of misused = Misused
+status_of (rejected (refused r)) = InstanceRefused
+status_of (rejected (exceeded limit)) = LimitExceeded

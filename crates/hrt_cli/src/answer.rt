@@ -1,0 +1,72 @@
+// What a run answers.
+ghost use Rattle.std.specs.Prelude.{◌≡◌, ◌++◌, codes, IfOk, IfErr};
+ghost use Rattle.hrt_reader.specs.Kinds.{number};
+ghost use Rattle.hrt_cli.specs.Answers.{EndsFor, Explains};
+ghost use Rattle.hrt_cli.specs.Reports.{kind_word, limit_line, place_line};
+
+use crate::{Ended, Limit, Report, Status, Stop};
+use hrt_base::NoMemory;
+use hrt_reader::ReadKind;
+use std::alloc::Global;
+
+/// A status with its report.
+#[derive(Drop)]
+pub struct Answer {
+    pub status: Status,
+    pub report: Report,
+}
+
+/// The answer that tells why there was a stop.
+pub fn explain(alloc: Global, stop: Stop) -> Result<Answer, Ended>
+    ensures told { IfOk result (Explains stop) }
+    ensures ended { IfErr result (EndsFor stop) }
+{
+    match stop {
+        Stop::Refused { kind, line } => Ok(Answer {
+            status: Status::InstanceRefused,
+            report: refusal_report(alloc, kind, line)?,
+        }),
+        Stop::Exceeded(limit) => Ok(Answer {
+            status: Status::LimitExceeded,
+            report: limit_report(alloc, limit)?,
+        }),
+        Stop::ReadFault => Err(Ended::ReadFault),
+        Stop::NoMemory => Err(Ended::NoMemory),
+    }
+}
+
+fn refusal_report(alloc: Global, kind: ReadKind, line: u32) -> Result<Report, NoMemory>
+    ensures { IfOk result (λ report. report ≡ codes "instance refused line " ++ place_line line (kind_word (number kind))) }
+{
+    let mut report = Report::new(alloc);
+    report.push("instance refused line ".as_bytes())?;
+    report.push_place(line, kind_name(kind))?;
+    Ok(report)
+}
+
+fn limit_report(alloc: Global, limit: Limit) -> Result<Report, NoMemory>
+    ensures { IfOk result (λ report. report ≡ limit_line limit) }
+{
+    let mut report = Report::new(alloc);
+    report.push(b"limit ")?;
+    report.push_count(limit.name(), limit.most())?;
+    Ok(report)
+}
+
+// The word for a kind of refusal.
+fn kind_name(kind: ReadKind) -> &'static str
+    ensures { result.now ≡ kind_word (number kind) }
+{
+    match kind {
+        ReadKind::BadHeader => "BadHeader",
+        ReadKind::BadLine => "BadLine",
+        ReadKind::BadName => "BadName",
+        ReadKind::BadCapacity => "BadCapacity",
+        ReadKind::DeclaredTwice => "DeclaredTwice",
+        ReadKind::UnknownName => "UnknownName",
+        ReadKind::NamedTwice => "NamedTwice",
+        ReadKind::BadTie => "BadTie",
+        ReadKind::NoEnd => "NoEnd",
+        ReadKind::AfterEnd => "AfterEnd",
+    }
+}

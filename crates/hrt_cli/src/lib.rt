@@ -1,0 +1,21 @@
+//! The program over any host: the words, the files that are read, the reports, and the codes that it ends with.
+#![tactic(auto)]
+
+mod answer;
+mod input;
+mod limit;
+mod loading;
+mod program;
+mod report;
+mod solve;
+mod status;
+mod stop;
+mod words;
+
+use answer::{Answer, explain};
+use limit::Limit;
+pub use program::run;
+use report::Report;
+use status::Status;
+use stop::{Ended, Stop};
+use words::{Command, command_of};

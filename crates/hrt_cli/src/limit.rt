@@ -1,0 +1,42 @@
+// What a run counts, and the most that it takes.
+ghost use Rattle.std.specs.Prelude.{◌≡◌};
+ghost use Rattle.hrt_cli.specs.Limits.{most, name_of};
+
+/// What there can be too much of.
+#[derive(Clone, Copy, Debug, PartialEq, Eq)]
+pub enum Limit {
+    Residents,
+    Hospitals,
+    Pairs,
+    /// The pairs of which every set is tried.
+    TriedPairs,
+    InstanceBytes,
+    PairsBytes,
+}
+
+impl Limit {
+    /// The word for it in a report.
+    pub fn name(self) -> &'static str
+        ensures { result.now ≡ name_of self }
+    {
+        match self {
+            Limit::Residents => "residents",
+            Limit::Hospitals => "hospitals",
+            Limit::Pairs | Limit::TriedPairs => "pairs",
+            Limit::InstanceBytes => "instance-bytes",
+            Limit::PairsBytes => "pairs-bytes",
+        }
+    }
+
+    /// The most of it that is taken.
+    pub fn most(self) -> u32
+        ensures { result ≡ most self }
+    {
+        match self {
+            Limit::Residents | Limit::Hospitals => 20_000,
+            Limit::Pairs => 100_000,
+            Limit::TriedPairs => 12,
+            Limit::InstanceBytes | Limit::PairsBytes => 67_108_864,
+        }
+    }
+}

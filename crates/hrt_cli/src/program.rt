@@ -1,0 +1,79 @@
+// A whole run.
+ghost use Rattle.std.specs.Prelude.{◌≡◌, ◌⊎◌, ℕ, List, true, IfOk, IfErr, OnOk, OnErr, Some, None};
+ghost use Rattle.hrt_base.specs.declared.port.Port.{Port};
+ghost use Rattle.hrt_base.specs.Calls.{AtStart, Rose, SentPart};
+ghost use Rattle.hrt_cli.specs.Answers.{GivesUp, IsAnswered};
+ghost use Rattle.hrt_cli.specs.Requests.{asked_by, request_of, solve, texts_of};
+ghost use Rattle.hrt_cli.specs.Runs.{EndsAs, IsCutShort, IsDecided, IsDue, IsSentWhole, KeepsFiles, PrintsBest, SendsNothing, has_report, is_code};
+
+use crate::solve::solve;
+use crate::{Answer, Command, Ended, Status, command_of};
+use hrt_base::{Begun, Failed, Host, Port, write_all};
+use std::alloc::Global;
+
+/// Does what the words ask for, and answers the code with which the program exits: 0 done, 2 words not understood,
+/// 3 instance refused, 4 a read failed, 5 a write failed, 6 out of memory, 7 a limit passed.
+#[tactic(auto, using(crate::proofs::Codes::best, crate::proofs::Codes::misused_code, crate::proofs::Codes::understood_code, crate::proofs::Codes::decided, crate::proofs::Codes::due, crate::proofs::Codes::read_fault, crate::proofs::Codes::after_read_fault, crate::proofs::Codes::write_fault, crate::proofs::Codes::after_write_fault, crate::proofs::Codes::after_no_memory, crate::proofs::Codes::closed, crate::proofs::Codes::files_kept, crate::proofs::Codes::known))]
+pub fn run<H: Host>(alloc: Global, words: &[String], host: &mut H) -> u8
+    requires { AtStart H.told (H.world host.old) }
+    ensures best { H.told → result ≡ 0 → (instance : List ℕ) → request_of (texts_of words.now) ≡ Some (solve instance) → PrintsBest instance (H.world host.old).content (H.world host.new).content }
+    ensures misused { result ≡ 2 → request_of (texts_of words.now) ≡ None }
+    ensures understood { request_of (texts_of words.now) ≡ None → (result ≡ 2) ⊎ (result ≡ 5) }
+    ensures decided { H.told → has_report result ≡ true → IsDecided (request_of (texts_of words.now)) result (H.world host.old) (H.world host.new) }
+    ensures due { H.told → IsDue (request_of (texts_of words.now)) result (H.world host.old) }
+    ensures read_fault { result ≡ 4 → Rose (H.world host.old).read_faults (H.world host.new).read_faults }
+    ensures after_read_fault { H.told → result ≡ 4 → SendsNothing (H.world host.old).content (H.world host.new).content }
+    ensures write_fault { result ≡ 5 → Rose (H.world host.old).write_faults (H.world host.new).write_faults }
+    ensures after_write_fault { H.told → result ≡ 5 → IsCutShort (request_of (texts_of words.now)) (H.world host.old) (H.world host.new) }
+    ensures after_no_memory { H.told → result ≡ 6 → SendsNothing (H.world host.old).content (H.world host.new).content }
+    ensures closed { has_report result ≡ true → (port : Port) → (H.world host.new).begun port ≡ Begun.Writing → ⊥ }
+    ensures files { H.told → KeepsFiles (H.world host.old).content (H.world host.new).content }
+    ensures known { is_code result ≡ true }
+{
+    carry_out(alloc, words, host).code()
+}
+
+// Does what the words ask for, and tells how it ended.
+fn carry_out<H: Host>(alloc: Global, words: &[String], host: &mut H) -> Status
+    requires { AtStart H.told (H.world host.old) }
+    ensures { EndsAs H.told (request_of (texts_of words.now)) result (H.world host.old) (H.world host.new) }
+{
+    let Some(command) = command_of(words) else {
+        return match send(host, b"words not understood\n") {
+            Ok(()) => Status::Misused,
+            Err(Failed) => Status::WriteFault,
+        };
+    };
+    match answer_to(alloc, host, command) {
+        Ok(answer) => match send(host, answer.report.as_bytes()) {
+            Ok(()) => answer.status,
+            Err(Failed) => Status::WriteFault,
+        },
+        Err(Ended::ReadFault) => Status::ReadFault,
+        Err(Ended::WriteFault) => Status::WriteFault,
+        Err(Ended::NoMemory) => Status::NoMemory,
+    }
+}
+
+// The answer to a command.
+fn answer_to<H: Host>(alloc: Global, host: &mut H, command: Command) -> Result<Answer, Ended>
+    requires { AtStart H.told (H.world host.old) }
+    ensures answered { IfOk result (λ answer. IsAnswered H.told (Some (asked_by command.entry)) answer (H.world host.old) (H.world host.new)) }
+    ensures ended { IfErr result (λ ended. GivesUp H.told ended (H.world host.old) (H.world host.new)) }
+{
+    match command {
+        Command::Solve(instance) => solve(alloc, host, instance),
+    }
+}
+
+// Writes the report and seals it.
+#[tactic(auto, using(hrt_base::proofs::Pieces::sent_failed))]
+fn send<H: Host>(host: &mut H, text: &[u8]) -> Result<(), Failed>
+    requires { (H.world host.old).begun Port.Report ≡ Begun.Writing }
+    ensures sent { OnOk result (IsSentWhole H.told text.now (H.world host.old) (H.world host.new)) }
+    ensures failed { OnErr result (SentPart H.told Port.Report text.now (H.world host.old) (H.world host.new)) }
+{
+    write_all(host, Port::Report, text)?;
+    host.seal(Port::Report)?;
+    Ok(())
+}

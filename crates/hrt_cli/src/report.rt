@@ -1,0 +1,101 @@
+// The text of a report.
+ghost use Rattle.std.specs.Prelude.{◌≡◌, ◌++◌, [], OnOk};
+ghost use Rattle.hrt_cli.specs.Reports.{count_line, instance_lines, line, pair_line, place_line};
+ghost use Rattle.rank_tables.specs.Tables.{IsPairNo};
+
+use hrt_base::{NoMemory, PairNo};
+use itoa::Buffer;
+use rank_tables::Instance;
+use std::alloc::Global;
+use std::marker::Model;
+
+/// The text of a report, line by line.
+#[derive(Drop)]
+pub struct Report {
+    text: Vec<u8>,
+}
+
+impl Model for Report {
+    ghost use Rattle.std.specs.Prelude.{List, ℕ};
+
+    ghost Value = { List ℕ };
+
+    ghost view = { λ r. r.text.items };
+}
+
+impl Report {
+    /// No line.
+    pub fn new(alloc: Global) -> Report
+        ensures { result ≡ [] }
+    {
+        Report {
+            text: Vec::new(alloc),
+        }
+    }
+
+    /// The bytes so far.
+    pub fn as_bytes(&self) -> &[u8]
+        ensures { result.now ≡ self.now }
+    {
+        &self.text
+    }
+
+    /// Adds bytes.
+    pub fn push(&mut self, bytes: &[u8]) -> Result<(), NoMemory>
+        ensures { OnOk result (self.new ≡ self.old ++ bytes.now) }
+    {
+        self.text.extend_from_slice(bytes)?;
+        Ok(())
+    }
+
+    /// Adds a line.
+    pub fn push_line(&mut self, text: &str) -> Result<(), NoMemory>
+        ensures { OnOk result (self.new ≡ self.old ++ line text.now) }
+    {
+        self.push(text.as_bytes())?;
+        self.push(b"\n")
+    }
+
+    /// Adds a line of a word and a number.
+    pub fn push_count(&mut self, word: &str, number: u32) -> Result<(), NoMemory>
+        ensures { OnOk result (self.new ≡ self.old ++ count_line word.now number) }
+    {
+        let mut buffer = Buffer::new();
+        self.push(word.as_bytes())?;
+        self.push(b" ")?;
+        self.push(buffer.format(number).as_bytes())?;
+        self.push(b"\n")
+    }
+
+    /// Adds a number and what is there, to the end of the line.
+    pub fn push_place(&mut self, number: u32, what: &str) -> Result<(), NoMemory>
+        ensures { OnOk result (self.new ≡ self.old ++ place_line number what.now) }
+    {
+        let mut buffer = Buffer::new();
+        self.push(buffer.format(number).as_bytes())?;
+        self.push(b" ")?;
+        self.push_line(what)
+    }
+
+    /// Adds the line that names a pair.
+    pub fn push_pair(&mut self, inst: &Instance, pair: PairNo) -> Result<(), NoMemory>
+        requires { IsPairNo inst.now pair.0 }
+        ensures { OnOk result (self.new ≡ self.old ++ pair_line inst.now pair.0) }
+    {
+        self.push(b"pair ")?;
+        self.push(inst.resident_name(inst.resident_of(pair)).bytes())?;
+        self.push(b" ")?;
+        self.push(inst.hospital_name(inst.hospital_of(pair)).bytes())?;
+        self.push(b"\n")
+    }
+
+    /// Adds the lines that count what an instance has.
+    pub fn push_instance(&mut self, inst: &Instance) -> Result<(), NoMemory>
+        ensures { OnOk result (self.new ≡ self.old ++ instance_lines inst.now) }
+    {
+        self.push_count("residents", inst.residents())?;
+        self.push_count("hospitals", inst.hospitals())?;
+        self.push_count("pairs", inst.pairs())?;
+        self.push_count("one-sided", inst.one_sided())
+    }
+}

@@ -1,0 +1,2 @@
+//! A largest weakly stable matching of a small instance, by trying every set of its pairs.
+#![tactic(auto)]

@@ -1,8 +1,10 @@
 -- Each choice of pairs is a set with a number, so that whoever tries each number tries a list as long as any stable one.
-use Rattle.std.proofs.Common.{◌≡◌, ℕ, zero, suc, ◌+◌, ◌-◌, ◌*◌, ◌/◌, ◌%◌, ◌^◌, ◌<◌, ◌≤◌, Bool, true, false, cond, List, [], ◌∷◌, ◌==◌, nat_le, if◌then◌else◌, filter, length, refl, sym, ap, ◌∙◌, ap₂, arith}
+use Rattle.std.proofs.Common.{◌≡◌, ℕ, zero, suc, ◌+◌, ◌-◌, ◌*◌, ◌/◌, ◌%◌, ◌^◌, ◌<◌, ◌≤◌, Bool, true, false, cond, List, [], ◌∷◌, ◌++◌, ◌==◌, nat_le, if◌then◌else◌, filter, length, refl, sym, ap, ◌∙◌, ap₂, add-one, append-nil, arith}
 use Rattle.std.specs.Int.{bit_at}
-use Rattle.std.proofs.lemmas.Bool.{and_parts, leb-true, or_left, or_right, eq-eqb}
-use Rattle.std.proofs.lemmas.Nat.Bits.{bit_at_lowest, bit_at-suc}
+use Rattle.std.specs.Int.RustNames.{bit_and}
+use Rattle.std.proofs.lemmas.List.Elements.{filter-append}
+use Rattle.std.proofs.lemmas.Bool.{and_parts, leb-true, ne_eqb, or_left, or_right, eq-eqb}
+use Rattle.std.proofs.lemmas.Nat.Bits.{bit_at_lowest, bit_at-suc, shr_and_one}
 use Rattle.std.proofs.Math.Nat.{pow-suc}
 use Rattle.rank_tables.specs.Numbers.{numbers_to, is_in}
 use Rattle.rank_tables.specs.Instance.{Lists, pair_count}
@@ -61,6 +63,20 @@ kept_alike : (p q : ℕ → Bool) (xs : List ℕ) → ((x : ℕ) → is_in x xs 
 kept_alike p q [] h = refl
 kept_alike p q (x ∷ xs) h =
     ap₂ (λ (b : Bool) (ys : List ℕ). cond b (x ∷ ys) ys) (h x (or_left (x == x) _ (eq-eqb x x refl))) (kept_alike p q xs (λ y i. h y (or_right (x == y) _ i)))
+
+-- the members up to one pair more
+more : (set n : ℕ) → members set (n + 1) ≡ members set n ++ cond (is_member set (n + 1)) ((n + 1) ∷ []) []
+more set n = rw add-one (filter-append (is_member set) (numbers_to n) (suc n ∷ []))
+
+bit_is : (set n b : ℕ) → bit_and (set / 2 ^ n) 1 ≡ b → is_member set (n + 1) ≡ (b == 1)
+bit_is set n b e = let place : n + 1 - 1 ≡ n = omega arith in ap (λ i. bit_at set i == 1) place ∙ ap (λ k. k == 1) (sym (shr_and_one set n) ∙ e)
+
+pub members-with : (set n : ℕ) → bit_and (set / 2 ^ n) 1 ≡ 1 → members set (n + 1) ≡ members set n ++ ((n + 1) ∷ [])
+members-with set n e = more set n ∙ ap (λ b. members set n ++ cond b ((n + 1) ∷ []) []) (bit_is set n 1 e)
+
+pub members-without : (set n : ℕ) → (bit_and (set / 2 ^ n) 1 ≡ 1 → ⊥) → members set (n + 1) ≡ members set n
+members-without set n e =
+    more set n ∙ ap (λ b. members set n ++ cond b ((n + 1) ∷ []) []) (bit_is set n _ refl ∙ ne_eqb _ 1 e) ∙ append-nil (members set n)
 
 -- each test has a set with its pairs
 pub set_of : (t : ℕ → Bool) (n : ℕ) → (set : ℕ) × (set < 2 ^ n) × (members set n ≡ filter t (numbers_to n))

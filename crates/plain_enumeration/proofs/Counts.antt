@@ -8,7 +8,7 @@ use Rattle.rank_tables.proofs.Numbers.{element, list_any-count, sum_by-filter, s
 
 -- ---- counts
 
-abbrev one_if : Bool → ℕ
+abbrev pub one_if : Bool → ℕ
 one_if b = if b then 1 else 0
 
 le_step : (a b : Bool) (m n : ℕ) → (a ≡ true → b ≡ true) → m ≤ n → one_if a + m ≤ one_if b + n

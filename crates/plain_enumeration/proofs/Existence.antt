@@ -5,7 +5,7 @@ use Rattle.rank_tables.specs.Numbers.{numbers_to, is_in}
 use Rattle.rank_tables.specs.Instance.{Lists, pair_count, pair_at, rank_by_resident, rank_by_hospital, capacity_of}
 use Rattle.rank_tables.specs.Stability.{is_matching, blocks, is_weakly_stable, resident_wants, hospital_wants, uses_of_resident, uses_of_hospital}
 use Rattle.rank_tables.proofs.Numbers.{element, all_at, all_from, is_in-filter, is_in-numbers_to, distinct-numbers_to}
-use Rattle.rank_tables.proofs.Membership.{chosen, chosen_distinct}
+use Rattle.rank_tables.proofs.Membership.{chosen, chosen_distinct, are_pairs}
 use Rattle.plain_enumeration.proofs.Counts.{count_among, count_one}
 use Rattle.plain_enumeration.proofs.Rejections.{Market, is_choice, one_choice, IsSettled, settled, is_at, within_posts, HasRoom, none_blocks}
 
@@ -22,6 +22,12 @@ market lists = record {
 
 abbrev choices : (lists : Lists) → (ℕ → Bool) → List ℕ
 choices lists rejected = chosen lists (is_choice (market lists) rejected)
+
+pub chosen_in_range : (lists : Lists) (test : ℕ → Bool) → are_pairs lists (chosen lists test) ≡ true
+chosen_in_range lists test =
+    all_from _ (chosen lists test) (λ p i.
+        sym (is_in-numbers_to (pair_count lists) p)
+        ∙ (and_parts (is_in p (numbers_to (pair_count lists))) _ (sym (is_in-filter test p (numbers_to (pair_count lists))) ∙ i)).0)
 
 -- a chosen pair is one of the instance's, and its resident's choice
 member : (lists : Lists) (rejected : ℕ → Bool) (p : ℕ) → is_in p (choices lists rejected) ≡ true →
@@ -50,8 +56,7 @@ matching : (lists : Lists) (rejected : ℕ → Bool) → IsSettled (market lists
 matching lists rejected s =
     and_from _ _
     (and_from _ _
-    (and_from _ _ (chosen_distinct lists (is_choice (market lists) rejected))
-    (all_from _ (choices lists rejected) (λ p i. sym (is_in-numbers_to (pair_count lists) p) ∙ (member lists rejected p i).0)))
+    (and_from _ _ (chosen_distinct lists (is_choice (market lists) rejected)) (chosen_in_range lists (is_choice (market lists) rejected)))
     (all_from _ (choices lists rejected) (λ p i. le-leb _ _ (residents_once lists rejected (pair_at lists p).resident))))
     (all_from _ (choices lists rejected) (λ p i. le-leb _ _ (hospitals_within lists rejected s (pair_at lists p).hospital)))
 

@@ -3,3 +3,4 @@ pub mod Rejections
 pub mod Existence
 mod Worked
 pub mod Sets
+pub mod Trials

@@ -11,10 +11,8 @@ use Rattle.rank_tables.specs.Instance.{Lists, pair_count}
 use Rattle.rank_tables.specs.Stability.{is_weakly_stable}
 use Rattle.rank_tables.proofs.Numbers.{is_in-numbers_to}
 use Rattle.rank_tables.proofs.Membership.{in_order, in_order_stable, in_order_length, stable_parts}
+use Rattle.plain_enumeration.proofs.Counts.{one_if}
 use Rattle.plain_enumeration.specs.Sets.{is_member, members}
-
-abbrev one_if : Bool → ℕ
-one_if b = if b then 1 else 0
 
 -- the number of the set of those from 1 to the count that pass a test
 number_of : (ℕ → Bool) → ℕ → ℕ

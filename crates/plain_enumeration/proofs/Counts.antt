@@ -22,7 +22,7 @@ pub count_le : (t u : ℕ → Bool) (xs : List ℕ) → ((x : ℕ) → is_in x x
 count_le t u [] h = omega arith
 count_le t u (x ∷ xs) h =
     let step : one_if (t x) + count_by t xs ≤ one_if (u x) + count_by u xs =
-        le_step (t x) (u x) _ _ (h x (or_left (x == x) _ (eq-eqb x x refl))) (count_le t u xs (λ y i. h y (or_right (x == y) _ i))) in
+    le_step (t x) (u x) _ _ (h x (or_left (x == x) _ (eq-eqb x x refl))) (count_le t u xs (λ y i. h y (or_right (x == y) _ i))) in
     omega (arith, sum_by-cons (λ x. one_if (t x)) x xs, sum_by-cons (λ x. one_if (u x)) x xs)
 
 lt_step : (a b : Bool) (m n : ℕ) → a ≡ false → b ≡ true → m ≤ n → one_if a + m < one_if b + n
@@ -37,13 +37,13 @@ count_lt t u w [] h i e f = absurd (true≢false (sym i))
 count_lt t u w (x ∷ xs) h i e f =
     let later : (y : ℕ) → is_in y xs ≡ true → t y ≡ true → u y ≡ true = λ y j. h y (or_right (x == y) _ j) in
     let step : one_if (t x) + count_by t xs < one_if (u x) + count_by u xs =
-        elim (or_cases (x == w) (is_in w xs) i) [
-          | inl s ↦ lt_step (t x) (u x) _ _ (ap t (eqb-true x w s) ∙ e) (ap u (eqb-true x w s) ∙ f) (count_le t u xs later)
-          | inr s ↦
-              let rest : count_by t xs < count_by u xs = count_lt t u w xs later s e f in
-              let here : one_if (t x) + 0 ≤ one_if (u x) + 0 = le_step (t x) (u x) 0 0 (h x (or_left (x == x) _ (eq-eqb x x refl))) (omega arith) in
-              omega arith
-        ] in
+    elim (or_cases (x == w) (is_in w xs) i) [
+      | inl s ↦ lt_step (t x) (u x) _ _ (ap t (eqb-true x w s) ∙ e) (ap u (eqb-true x w s) ∙ f) (count_le t u xs later)
+      | inr s ↦
+          let rest : count_by t xs < count_by u xs = count_lt t u w xs later s e f in
+          let here : one_if (t x) + 0 ≤ one_if (u x) + 0 = le_step (t x) (u x) 0 0 (h x (or_left (x == x) _ (eq-eqb x x refl))) (omega arith) in
+          omega arith
+    ] in
     omega (arith, sum_by-cons (λ x. one_if (t x)) x xs, sum_by-cons (λ x. one_if (u x)) x xs)
 
 -- those that pass, but for one number
@@ -69,10 +69,10 @@ count_but w t [] d = omega arith
 count_but w t (x ∷ xs) d =
     let apart : (not (is_in x xs) ≡ true) × (is_distinct xs ≡ true) = and_parts (not (is_in x xs)) _ d in
     let step : one_if (t x) + count_by t xs ≤ 1 + (one_if (but w t x) + count_by (but w t) xs) =
-        elim (cases_Bool (x == w)) [
-          | inl s ↦ at_one (t x) (but w t x) _ _ (count_le t (but w t) xs (λ y i k. and_from (t y) _ k (differs w x y xs (eqb-true x w s) (not-true _ apart.0) i)))
-          | inr s ↦ before_one (t x) (x == w) _ _ s (count_but w t xs apart.1)
-        ] in
+    elim (cases_Bool (x == w)) [
+      | inl s ↦ at_one (t x) (but w t x) _ _ (count_le t (but w t) xs (λ y i k. and_from (t y) _ k (differs w x y xs (eqb-true x w s) (not-true _ apart.0) i)))
+      | inr s ↦ before_one (t x) (x == w) _ _ s (count_but w t xs apart.1)
+    ] in
     omega (arith, sum_by-cons (λ x. one_if (t x)) x xs, sum_by-cons (λ x. one_if (but w t x)) x xs)
 
 pub any_from : (t : ℕ → Bool) (x : ℕ) (xs : List ℕ) → is_in x xs ≡ true → t x ≡ true → list_any t xs ≡ true
@@ -98,9 +98,9 @@ count_one t xs d h =
           let r : (x : ℕ) × (is_in x xs ≡ true) × (t x ≡ true) = element t xs e in
           let few : count_by t xs ≤ 1 + count_by (but r.0 t) xs = count_but r.0 t xs d in
           let none : count_by (but r.0 t) xs ≤ 0 =
-              count_none (but r.0 t) xs (λ y i k.
-                  let parts : (t y ≡ true) × (not (y == r.0) ≡ true) = and_parts (t y) _ k in
-                  eqb-false y r.0 (not-true _ parts.1) (h y r.0 i r.1 parts.0 r.2)) in
+          count_none (but r.0 t) xs (λ y i k.
+          let parts : (t y ≡ true) × (not (y == r.0) ≡ true) = and_parts (t y) _ k in
+          eqb-false y r.0 (not-true _ parts.1) (h y r.0 i r.1 parts.0 r.2)) in
           omega arith
       | inr e ↦ let none : count_by t xs ≤ 0 = ltb-false 0 _ (sym (list_any-count t xs) ∙ e) in omega arith
     ]
@@ -142,16 +142,20 @@ first_of_two : (before : ℕ → ℕ → Bool) → IsOrder before → (t : ℕ �
 first_of_two before o t x xs r =
     elim (cases_Bool (t x && before x r.0)) [
       | inl e ↦
-          let parts : (t x ≡ true) × (before x r.0 ≡ true) = and_parts (t x) _ e in
-          (x, record {
-            stands = or_left (x == x) _ (eq-eqb x x refl);
-            passes = parts.0;
-            leads = λ y i k. elim (or_cases (x == y) (is_in y xs) i) [
-              | inl s ↦ subst (λ (z : ℕ). before x z ≡ true) (eqb-true x y s) (itself before o x)
-              | inr s ↦ o.joins x r.0 y parts.1 (r.1.leads y s k)
-            ]
-          })
-      | inr e ↦ (r.0, record {
+          let parts : (t x ≡ true) × (before x r.0 ≡ true) = and_parts (t x) _ e in (
+            x,
+            record {
+              stands = or_left (x == x) _ (eq-eqb x x refl);
+              passes = parts.0;
+              leads = λ y i k. elim (or_cases (x == y) (is_in y xs) i) [
+                | inl s ↦ subst (λ (z : ℕ). before x z ≡ true) (eqb-true x y s) (itself before o x)
+                | inr s ↦ o.joins x r.0 y parts.1 (r.1.leads y s k)
+              ];
+            },
+          )
+      | inr e ↦ (
+        r.0,
+        record {
           stands = or_right (x == r.0) _ r.1.stands;
           passes = r.1.passes;
           leads = λ y i k. elim (or_cases (x == y) (is_in y xs) i) [
@@ -160,8 +164,9 @@ first_of_two before o t x xs r =
                 let b : (before x r.0 ≡ false) = true_then (t x) _ (ap t n ∙ k) e in
                 subst (λ (z : ℕ). before r.0 z ≡ true) n (o.total x r.0 b)
             | inr s ↦ r.1.leads y s k
-          ]
-        })
+          ];
+        },
+      )
     ]
 
 pub first : (before : ℕ → ℕ → Bool) → IsOrder before → (t : ℕ → Bool) (xs : List ℕ) → list_any t xs ≡ true → (x : ℕ) × IsFirst before t xs x
@@ -169,12 +174,15 @@ first before o t [] h = absurd (true≢false (sym h))
 first before o t (x ∷ xs) h =
     elim (cases_Bool (list_any t xs)) [
       | inl e ↦ first_of_two before o t x xs (first before o t xs e)
-      | inr e ↦ (x, record {
+      | inr e ↦ (
+        x,
+        record {
           stands = or_left (x == x) _ (eq-eqb x x refl);
           passes = here (t x) _ e h;
           leads = λ y i k. elim (or_cases (x == y) (is_in y xs) i) [
             | inl s ↦ subst (λ (z : ℕ). before x z ≡ true) (eqb-true x y s) (itself before o x)
             | inr s ↦ absurd (true≢false (sym (any_from t y xs s k) ∙ e))
-          ]
-        })
+          ];
+        },
+      )
     ]

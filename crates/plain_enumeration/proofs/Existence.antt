@@ -17,7 +17,7 @@ market lists = record {
   hospital = λ p. (pair_at lists p).hospital;
   rank_by_resident = λ p. rank_by_resident lists p;
   rank_by_hospital = λ p. rank_by_hospital lists p;
-  capacity = λ h. capacity_of lists h
+  capacity = λ h. capacity_of lists h;
 }
 
 abbrev choices : (lists : Lists) → (ℕ → Bool) → List ℕ
@@ -26,8 +26,8 @@ choices lists rejected = chosen lists (is_choice (market lists) rejected)
 pub chosen_in_range : (lists : Lists) (test : ℕ → Bool) → are_pairs lists (chosen lists test) ≡ true
 chosen_in_range lists test =
     all_from _ (chosen lists test) (λ p i.
-        sym (is_in-numbers_to (pair_count lists) p)
-        ∙ (and_parts (is_in p (numbers_to (pair_count lists))) _ (sym (is_in-filter test p (numbers_to (pair_count lists))) ∙ i)).0)
+    sym (is_in-numbers_to (pair_count lists) p)
+    ∙ (and_parts (is_in p (numbers_to (pair_count lists))) _ (sym (is_in-filter test p (numbers_to (pair_count lists))) ∙ i)).0)
 
 -- a chosen pair is one of the instance's, and its resident's choice
 member : (lists : Lists) (rejected : ℕ → Bool) (p : ℕ) → is_in p (choices lists rejected) ≡ true →
@@ -42,9 +42,9 @@ residents_once : (lists : Lists) (rejected : ℕ → Bool) (r : ℕ) → uses_of
 residents_once lists rejected r =
     subst (λ (n : ℕ). n ≤ 1) (sym (count_among (is_choice (market lists) rejected) (λ q. (pair_at lists q).resident == r) (numbers_to (pair_count lists))))
     (count_one _ (numbers_to (pair_count lists)) (distinct-numbers_to (pair_count lists)) (λ p q i j c d.
-        let one = and_parts (is_choice (market lists) rejected p) ((pair_at lists p).resident == r) c in
-        let other = and_parts (is_choice (market lists) rejected q) ((pair_at lists q).resident == r) d in
-        one_choice (market lists) rejected p q i j one.0 other.0 (eqb-true _ _ one.1 ∙ sym (eqb-true _ _ other.1))))
+    let one = and_parts (is_choice (market lists) rejected p) ((pair_at lists p).resident == r) c in
+    let other = and_parts (is_choice (market lists) rejected q) ((pair_at lists q).resident == r) d in
+    one_choice (market lists) rejected p q i j one.0 other.0 (eqb-true _ _ one.1 ∙ sym (eqb-true _ _ other.1))))
 
 uses : (lists : Lists) (rejected : ℕ → Bool) (h : ℕ) → uses_of_hospital lists (choices lists rejected) h ≡ count_by (is_at (market lists) rejected h) (numbers_to (pair_count lists))
 uses lists rejected h = count_among (is_choice (market lists) rejected) (λ q. (pair_at lists q).hospital == h) (numbers_to (pair_count lists))
@@ -83,13 +83,14 @@ room lists rejected p h =
 unblocked : (lists : Lists) (rejected : ℕ → Bool) → IsSettled (market lists) rejected → (p : ℕ) → is_in p (numbers_to (pair_count lists)) ≡ true → blocks lists (choices lists rejected) p ≡ false
 unblocked lists rejected s p i =
     false_from_ne_true _ (λ b.
-        let both = and_parts (not (is_in p (choices lists rejected)) && resident_wants lists (choices lists rejected) p) (hospital_wants lists (choices lists rejected) p) b in
-        none_blocks (market lists) rejected s p i
-        (wants lists rejected p (and_parts (not (is_in p (choices lists rejected))) (resident_wants lists (choices lists rejected) p) both.0).1)
-        (room lists rejected p both.1))
+    let both = and_parts (not (is_in p (choices lists rejected)) && resident_wants lists (choices lists rejected) p) (hospital_wants lists (choices lists rejected) p) b in
+    none_blocks (market lists) rejected s p i
+    (wants lists rejected p (and_parts (not (is_in p (choices lists rejected))) (resident_wants lists (choices lists rejected) p) both.0).1)
+    (room lists rejected p both.1))
 
 pub stable_exists : (lists : Lists) → (m : List ℕ) × (is_weakly_stable lists m ≡ true)
 stable_exists lists =
-    let end = settled (market lists) in
-    (choices lists end.0,
-    and_from _ _ (matching lists end.0 end.1) (all_from _ (numbers_to (pair_count lists)) (λ p i. not_from_false _ (unblocked lists end.0 end.1 p i))))
+    let end = settled (market lists) in (
+      choices lists end.0,
+      and_from _ _ (matching lists end.0 end.1) (all_from _ (numbers_to (pair_count lists)) (λ p i. not_from_false _ (unblocked lists end.0 end.1 p i))),
+    )

@@ -38,7 +38,7 @@ before_both m n p q h k = grind (arith, nat_tests)
 is_before-order : (rank : ℕ → ℕ) → IsOrder (is_before rank)
 is_before-order rank = record {
   total = λ x y h. before_total (rank x) (rank y) x y h;
-  joins = λ x y z h k. before_joins (rank x) (rank y) (rank z) x y z h k
+  joins = λ x y z h k. before_joins (rank x) (rank y) (rank z) x y z h k;
 }
 
 -- a pair of this resident that isn't rejected
@@ -68,10 +68,10 @@ choice_from : (k : Market) (rejected : ℕ → Bool) (p : ℕ) → rejected p �
 unfolding is_choice
 choice_from k rejected p e h =
     and_from _ _ (not_from_false _ e) (all_from _ (numbers_to k.count) (λ q i.
-        elim (cases_Bool (is_left k rejected (k.resident p) q)) [
-          | inl l ↦ or_right _ (is_before k.rank_by_resident p q) (h q i l)
-          | inr l ↦ or_left _ (is_before k.rank_by_resident p q) (not_from_false _ l)
-        ]))
+    elim (cases_Bool (is_left k rejected (k.resident p) q)) [
+      | inl l ↦ or_right _ (is_before k.rank_by_resident p q) (h q i l)
+      | inr l ↦ or_left _ (is_before k.rank_by_resident p q) (not_from_false _ l)
+    ]))
 
 -- a resident has one choice
 pub one_choice : (k : Market) (rejected : ℕ → Bool) (p q : ℕ) → is_in p (numbers_to k.count) ≡ true → is_in q (numbers_to k.count) ≡ true →
@@ -87,12 +87,15 @@ pub some_choice : (k : Market) (rejected : ℕ → Bool) (p : ℕ) → is_in p (
 some_choice k rejected p i e =
     let left : is_left k rejected (k.resident p) p ≡ true = and_from _ _ (not_from_false _ e) (eq-eqb (k.resident p) _ refl) in
     let r : (q : ℕ) × IsFirst (is_before k.rank_by_resident) (is_left k rejected (k.resident p)) (numbers_to k.count) q =
-        first _ (is_before-order k.rank_by_resident) (is_left k rejected (k.resident p)) (numbers_to k.count) (any_from _ p (numbers_to k.count) i left) in
-    let same : k.resident r.0 ≡ k.resident p = eqb-true _ _ (and_parts (not (rejected r.0)) _ r.1.passes).1 in
-    (r.0, r.1.stands,
-    choice_from k rejected r.0 (not-true _ (and_parts (not (rejected r.0)) _ r.1.passes).0)
-    (λ q j l. r.1.leads q j (subst (λ (z : ℕ). is_left k rejected z q ≡ true) same l)),
-    same, before_rank _ _ r.0 p (r.1.leads p i left))
+    first _ (is_before-order k.rank_by_resident) (is_left k rejected (k.resident p)) (numbers_to k.count) (any_from _ p (numbers_to k.count) i left) in
+    let same : k.resident r.0 ≡ k.resident p = eqb-true _ _ (and_parts (not (rejected r.0)) _ r.1.passes).1 in (
+      r.0,
+      r.1.stands,
+      choice_from k rejected r.0 (not-true _ (and_parts (not (rejected r.0)) _ r.1.passes).0)
+          (λ q j l. r.1.leads q j (subst (λ (z : ℕ). is_left k rejected z q ≡ true) same l)),
+      same,
+      before_rank _ _ r.0 p (r.1.leads p i left),
+    )
 
 -- ---- a rejection
 
@@ -104,8 +107,8 @@ still_choice : (k : Market) (rejected : ℕ → Bool) (w p : ℕ) → is_choice 
 still_choice k rejected w p c e =
     choice_from k (reject rejected w) p (or_from (rejected p) _ (choice_left k rejected p c) e)
     (λ q i l.
-        let parts : (not (reject rejected w q) ≡ true) × ((k.resident q == k.resident p) ≡ true) = and_parts (not (reject rejected w q)) _ l in
-        choice_before k rejected p q c i (and_from _ _ (not_from_false _ (or_parts (rejected q) _ (not-true _ parts.0)).0) parts.1))
+    let parts : (not (reject rejected w q) ≡ true) × ((k.resident q == k.resident p) ≡ true) = and_parts (not (reject rejected w q)) _ l in
+    choice_before k rejected p q c i (and_from _ _ (not_from_false _ (or_parts (rejected q) _ (not-true _ parts.0)).0) parts.1))
 
 -- chosen pairs at the hospital of q, each ranked at least as high as q
 abbrev pub is_ahead : Market → (ℕ → Bool) → ℕ → ℕ → Bool
@@ -123,7 +126,7 @@ pub ahead_parts : (k : Market) (rejected : ℕ → Bool) (q p : ℕ) → is_ahea
     (is_choice k rejected p ≡ true) × (k.hospital p ≡ k.hospital q) × (k.rank_by_hospital p ≤ k.rank_by_hospital q)
 ahead_parts k rejected q p h =
     let two : (is_choice k rejected p ≡ true) × ((k.hospital p == k.hospital q && nat_le (k.rank_by_hospital p) (k.rank_by_hospital q)) ≡ true) =
-        and_parts (is_choice k rejected p) _ h in
+    and_parts (is_choice k rejected p) _ h in
     let both : ((k.hospital p == k.hospital q) ≡ true) × (nat_le (k.rank_by_hospital p) (k.rank_by_hospital q) ≡ true) = and_parts (k.hospital p == k.hospital q) _ two.1 in
     (two.0, eqb-true _ _ both.0, leb-true _ _ both.1)
 
@@ -153,9 +156,9 @@ filled_itself : (k : Market) (rejected : ℕ → Bool) (w : ℕ) → is_crowded 
 filled_itself k rejected w h =
     let full = crowd k rejected w h in
     let kept : count_by (but w (is_ahead k rejected w)) (numbers_to k.count) ≤ count_by (is_ahead k (reject rejected w) w) (numbers_to k.count) =
-        count_le _ _ (numbers_to k.count) (λ p i b.
-            let parts : (is_ahead k rejected w p ≡ true) × (not (p == w) ≡ true) = and_parts (is_ahead k rejected w p) _ b in
-            ahead_still k rejected w w p parts.0 (not-true _ parts.1)) in
+    count_le _ _ (numbers_to k.count) (λ p i b.
+    let parts : (is_ahead k rejected w p ≡ true) × (not (p == w) ≡ true) = and_parts (is_ahead k rejected w p) _ b in
+    ahead_still k rejected w w p parts.0 (not-true _ parts.1)) in
     omega arith
 
 -- so does the hospital of a pair that was rejected before
@@ -167,14 +170,14 @@ filled_still k rejected w q h f =
           let full = crowd k rejected w h in
           let same : k.capacity (k.hospital w) ≡ k.capacity (k.hospital q) = ap k.capacity (ahead_parts k rejected q w a).1 in
           let kept : count_by (but w (is_ahead k rejected w)) (numbers_to k.count) ≤ count_by (is_ahead k (reject rejected w) q) (numbers_to k.count) =
-              count_le _ _ (numbers_to k.count) (λ p i b.
-                  let parts : (is_ahead k rejected w p ≡ true) × (not (p == w) ≡ true) = and_parts (is_ahead k rejected w p) _ b in
-                  ahead_still k rejected w q p (ahead_joins k rejected w q p a parts.0) (not-true _ parts.1)) in
+          count_le _ _ (numbers_to k.count) (λ p i b.
+          let parts : (is_ahead k rejected w p ≡ true) × (not (p == w) ≡ true) = and_parts (is_ahead k rejected w p) _ b in
+          ahead_still k rejected w q p (ahead_joins k rejected w q p a parts.0) (not-true _ parts.1)) in
           omega arith
       | inr a ↦
           let kept : count_by (is_ahead k rejected q) (numbers_to k.count) ≤ count_by (is_ahead k (reject rejected w) q) (numbers_to k.count) =
-              count_le _ _ (numbers_to k.count) (λ p i b.
-                  ahead_still k rejected w q p b (ne_eqb p w (λ e. true≢false (sym b ∙ ap (is_ahead k rejected q) e ∙ a)))) in
+          count_le _ _ (numbers_to k.count) (λ p i b.
+          ahead_still k rejected w q p b (ne_eqb p w (λ e. true≢false (sym b ∙ ap (is_ahead k rejected q) e ∙ a)))) in
           omega arith
     ]
 
@@ -183,7 +186,7 @@ justified_step k rejected w j h = record {
   filled = λ q i e. elim (or_cases (rejected q) (q == w) e) [
     | inl r ↦ filled_still k rejected w q h (j.filled q i r)
     | inr r ↦ subst (λ (z : ℕ). k.capacity (k.hospital z) ≤ count_by (is_ahead k (reject rejected w) z) (numbers_to k.count)) (sym (eqb-true q w r)) (filled_itself k rejected w h)
-  ]
+  ];
 }
 
 -- ---- rejections end
@@ -209,7 +212,7 @@ settle_step k fuel later rejected few j =
       | inl e ↦
           let r : (w : ℕ) × (is_in w (numbers_to k.count) ≡ true) × (is_crowded k rejected w ≡ true) = element (is_crowded k rejected) (numbers_to k.count) e in
           let less : unrejected k (reject rejected r.0) < unrejected k rejected =
-              one_fewer k rejected r.0 r.1 (choice_left k rejected r.0 (and_parts (is_choice k rejected r.0) _ r.2).0) in
+          one_fewer k rejected r.0 r.1 (choice_left k rejected r.0 (and_parts (is_choice k rejected r.0) _ r.2).0) in
           later (reject rejected r.0) (omega arith) (justified_step k rejected r.0 j r.2)
       | inr e ↦ (rejected, record { justified = j; none_crowded = e })
     ]
@@ -243,23 +246,23 @@ behind_joins l m n h k = grind (arith, nat_tests)
 is_behind-order : (rank : ℕ → ℕ) → IsOrder (is_behind rank)
 is_behind-order rank = record {
   total = λ x y h. behind_total (rank y) (rank x) h;
-  joins = λ x y z h k. behind_joins (rank z) (rank y) (rank x) k h
+  joins = λ x y z h k. behind_joins (rank z) (rank y) (rank x) k h;
 }
 
 -- the worst of too many would be crowded out
 too_many : (k : Market) (rejected : ℕ → Bool) (h : ℕ) → k.capacity h < count_by (is_at k rejected h) (numbers_to k.count) → list_any (is_crowded k rejected) (numbers_to k.count) ≡ true
 too_many k rejected h more =
     let r : (w : ℕ) × IsFirst (is_behind k.rank_by_hospital) (is_at k rejected h) (numbers_to k.count) w =
-        first _ (is_behind-order k.rank_by_hospital) (is_at k rejected h) (numbers_to k.count)
-        (list_any-count (is_at k rejected h) (numbers_to k.count) ∙ lt-ltb 0 _ (omega arith)) in
+    first _ (is_behind-order k.rank_by_hospital) (is_at k rejected h) (numbers_to k.count)
+    (list_any-count (is_at k rejected h) (numbers_to k.count) ∙ lt-ltb 0 _ (omega arith)) in
     let worst = at_parts k rejected h r.0 r.1.passes in
     let but_one : count_by (is_at k rejected h) (numbers_to k.count) ≤ 1 + count_by (but r.0 (is_at k rejected h)) (numbers_to k.count) =
-        count_but r.0 (is_at k rejected h) (numbers_to k.count) (distinct-numbers_to k.count) in
+    count_but r.0 (is_at k rejected h) (numbers_to k.count) (distinct-numbers_to k.count) in
     let ahead : count_by (but r.0 (is_at k rejected h)) (numbers_to k.count) ≤ count_by (but r.0 (is_ahead k rejected r.0)) (numbers_to k.count) =
-        count_le _ _ (numbers_to k.count) (λ p i b.
-            let parts : (is_at k rejected h p ≡ true) × (not (p == r.0) ≡ true) = and_parts (is_at k rejected h p) _ b in
-            let one = at_parts k rejected h p parts.0 in
-            and_from (is_ahead k rejected r.0 p) _ (ahead_from k rejected r.0 p one.0 (one.1 ∙ sym worst.1) (leb-true _ _ (r.1.leads p i parts.0))) parts.1) in
+    count_le _ _ (numbers_to k.count) (λ p i b.
+    let parts : (is_at k rejected h p ≡ true) × (not (p == r.0) ≡ true) = and_parts (is_at k rejected h p) _ b in
+    let one = at_parts k rejected h p parts.0 in
+    and_from (is_ahead k rejected r.0 p) _ (ahead_from k rejected r.0 p one.0 (one.1 ∙ sym worst.1) (leb-true _ _ (r.1.leads p i parts.0))) parts.1) in
     let posts : k.capacity (k.hospital r.0) ≡ k.capacity h = ap k.capacity worst.1 in
     let full : k.capacity (k.hospital r.0) ≤ count_by (but r.0 (is_ahead k rejected r.0)) (numbers_to k.count) = omega arith in
     any_from (is_crowded k rejected) r.0 (numbers_to k.count) r.1.stands (and_from (is_choice k rejected r.0) _ worst.0 (le-leb _ _ full))
@@ -283,16 +286,16 @@ no_room : (k : Market) (rejected : ℕ → Bool) → IsSettled k rejected → (p
     HasRoom k rejected p → ⊥
 no_room k rejected s p filled room =
     let at : (q : ℕ) → is_in q (numbers_to k.count) ≡ true → is_ahead k rejected p q ≡ true → is_at k rejected (k.hospital p) q ≡ true =
-        λ q i a. let parts = ahead_parts k rejected p q a in and_from (is_choice k rejected q) _ parts.0 (eq-eqb _ _ parts.1) in
+    λ q i a. let parts = ahead_parts k rejected p q a in and_from (is_choice k rejected q) _ parts.0 (eq-eqb _ _ parts.1) in
     elim room [
       | inl free ↦
           let few : count_by (is_ahead k rejected p) (numbers_to k.count) ≤ count_by (is_at k rejected (k.hospital p)) (numbers_to k.count) = count_le _ _ (numbers_to k.count) at in
           omega arith
       | inr worse ↦
           let not_ahead : is_ahead k rejected p worse.0 ≡ false =
-              false_from_ne_true _ (λ a. let rank : k.rank_by_hospital worse.0 ≤ k.rank_by_hospital p = (ahead_parts k rejected p worse.0 a).2 in let low : k.rank_by_hospital p < k.rank_by_hospital worse.0 = worse.4 in omega arith) in
+          false_from_ne_true _ (λ a. let rank : k.rank_by_hospital worse.0 ≤ k.rank_by_hospital p = (ahead_parts k rejected p worse.0 a).2 in let low : k.rank_by_hospital p < k.rank_by_hospital worse.0 = worse.4 in omega arith) in
           let fewer : count_by (is_ahead k rejected p) (numbers_to k.count) < count_by (is_at k rejected (k.hospital p)) (numbers_to k.count) =
-              count_lt _ _ worse.0 (numbers_to k.count) at worse.1 not_ahead (and_from (is_choice k rejected worse.0) _ worse.2 (eq-eqb _ _ worse.3)) in
+          count_lt _ _ worse.0 (numbers_to k.count) at worse.1 not_ahead (and_from (is_choice k rejected worse.0) _ worse.2 (eq-eqb _ _ worse.3)) in
           let within : count_by (is_at k rejected (k.hospital p)) (numbers_to k.count) ≤ k.capacity (k.hospital p) = within_posts k rejected s (k.hospital p) in
           omega arith
     ]

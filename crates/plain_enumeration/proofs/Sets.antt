@@ -1,5 +1,5 @@
 -- Each choice of pairs is a set with a number, so that whoever tries each number tries a list as long as any stable one.
-use Rattle.std.proofs.Common.{◌≡◌, ℕ, zero, suc, ◌+◌, ◌-◌, ◌*◌, ◌/◌, ◌%◌, ◌^◌, ◌<◌, ◌≤◌, Bool, true, false, cond, List, [], ◌∷◌, ◌++◌, ◌==◌, nat_le, if◌then◌else◌, filter, length, refl, sym, ap, ◌∙◌, ap₂, add-one, append-nil, arith}
+use Rattle.std.proofs.Common.{◌≡◌, ℕ, zero, suc, ◌+◌, ◌-◌, ◌*◌, ◌/◌, ◌%◌, ◌^◌, ◌<◌, ◌≤◌, Bool, true, false, cond, List, [], ◌∷◌, ◌++◌, ◌==◌, nat_le, filter, length, refl, sym, ap, ◌∙◌, ap₂, add-one, append-nil, arith}
 use Rattle.std.specs.Int.{bit_at}
 use Rattle.std.specs.Int.RustNames.{bit_and}
 use Rattle.std.proofs.lemmas.List.Elements.{filter-append}
@@ -78,10 +78,13 @@ members-without set n e =
 
 -- each test has a set with its pairs
 pub set_of : (t : ℕ → Bool) (n : ℕ) → (set : ℕ) × (set < 2 ^ n) × (members set n ≡ filter t (numbers_to n))
-set_of t n =
-    (number_of t n, number_below t n, kept_alike _ t (numbers_to n) (λ p i.
-        let range = and_parts (nat_le 1 p) (nat_le p n) (sym (is_in-numbers_to n p) ∙ i) in
-        member_of t n p (leb-true 1 p range.0) (leb-true p n range.1)))
+set_of t n = (
+  number_of t n,
+  number_below t n,
+  kept_alike _ t (numbers_to n) (λ p i.
+      let range = and_parts (nat_le 1 p) (nat_le p n) (sym (is_in-numbers_to n p) ∙ i) in
+      member_of t n p (leb-true 1 p range.0) (leb-true p n range.1)),
+)
 
 -- a length that no stable set exceeds is exceeded by no stable list
 pub sets_suffice : (lists : Lists) (most : ℕ) →
@@ -91,6 +94,6 @@ sets_suffice lists most h m s =
     let parts = stable_parts lists m s in
     let r : (set : ℕ) × (set < 2 ^ pair_count lists) × (members set (pair_count lists) ≡ in_order lists m) = set_of (λ p. is_in p m) (pair_count lists) in
     let long : length (members r.0 (pair_count lists)) ≤ most =
-        h r.0 r.1 (ap (is_weakly_stable lists) r.2 ∙ in_order_stable lists m parts.distinct parts.in_range ∙ s) in
+    h r.0 r.1 (ap (is_weakly_stable lists) r.2 ∙ in_order_stable lists m parts.distinct parts.in_range ∙ s) in
     let same : length (members r.0 (pair_count lists)) ≡ length m = ap length r.2 ∙ in_order_length lists m parts.distinct parts.in_range in
     omega arith

@@ -1,9 +1,9 @@
 -- What is known after so many sets were tried, and that the last one leaves a largest stable matching.
-use Rattle.std.proofs.Common.{◌≡◌, ℕ, zero, suc, ◌+◌, ◌^◌, ◌<◌, ◌≤◌, true, List, [], ◌∷◌, ◌++◌, filter, get_or, length, ◌⊎◌, inl, inr, refl, sym, ap, ◌∙◌, subst, arith, length-append, below_more}
+use Rattle.std.proofs.Common.{◌≡◌, ℕ, ◌+◌, ◌^◌, ◌<◌, ◌≤◌, true, List, [], ◌∷◌, get_or, length, ◌⊎◌, inl, inr, refl, sym, ap, ◌∙◌, subst, arith, below_more}
 use Rattle.std.specs.List.Sorted.{IsStrictlyIncreasing}
 use Rattle.std.proofs.lemmas.List.FromFn.{get_or-range_with_len}
 use Rattle.std.proofs.lemmas.List.Kept.{IsStrictlyIncreasing-filter}
-use Rattle.rank_tables.specs.Numbers.{numbers_to, is_distinct}
+use Rattle.rank_tables.specs.Numbers.{numbers_to}
 use Rattle.rank_tables.specs.Instance.{Lists, pair_count}
 use Rattle.rank_tables.specs.Stability.{is_weakly_stable, Best}
 use Rattle.rank_tables.proofs.Below.{length-numbers_to, numbers_to-range}
@@ -43,7 +43,7 @@ pub longest_still : (lists : Lists) (tried : ℕ) (best : List ℕ) → IsLonges
 longest_still lists tried best l h = record {
   kept = l.kept;
   rising = l.rising;
-  longest = below_more (λ set. is_weakly_stable lists (members set (pair_count lists)) ≡ true → length (members set (pair_count lists)) ≤ length best) tried l.longest h
+  longest = below_more (λ set. is_weakly_stable lists (members set (pair_count lists)) ≡ true → length (members set (pair_count lists)) ≤ length best) tried l.longest h;
 }
 
 -- the next set has one
@@ -53,8 +53,8 @@ longest_now lists tried best l s h = record {
   kept = inl s;
   rising = rising-members tried (pair_count lists);
   longest = below_more (λ set. is_weakly_stable lists (members set (pair_count lists)) ≡ true → length (members set (pair_count lists)) ≤ length (members tried (pair_count lists))) tried
-    (λ set k t. let before : length (members set (pair_count lists)) ≤ length best = l.longest set k t in omega arith)
-    (λ t. omega arith)
+      (λ set k t. let before : length (members set (pair_count lists)) ≤ length best = l.longest set k t in omega arith)
+      (λ t. omega arith);
 }
 
 no_longer : (m : List ℕ) → length m ≤ 0 → m ≡ []
@@ -73,5 +73,5 @@ longest_of_all lists best l =
             let short : length some.0 ≤ 0 = subst (λ (n : ℕ). length some.0 ≤ n) (ap length e) (largest some.0 some.1) in
             ap (is_weakly_stable lists) (e ∙ sym (no_longer some.0 short)) ∙ some.1
       ];
-      largest = largest
+      largest = largest;
     }

@@ -19,12 +19,13 @@ pub fn largest_stable(alloc: Global, inst: &Instance) -> Result<Vec<PairNo>, NoM
     ensures best { IfOk result (λ best. Best inst.now (numbers_of best.items)) }
     ensures rising { IfOk result (λ best. IsStrictlyIncreasing (numbers_of best.items)) }
 {
+    let count = inst.pairs();
     let mut auditor = Auditor::new(alloc, inst)?;
     let mut list = Vec::new(alloc);
     // Some list is stable, so the empty one is where no longer one is.
     let mut best = Vec::new(alloc);
-    for set in 0..1u32 << inst.pairs() {
-        list_members(set, inst.pairs(), &mut list)?;
+    for set in 0..1u32 << count {
+        list_members(set, count, &mut list)?;
         if list.len() > best.len() && auditor.audit(inst, &list) == Verdict::Stable {
             mem::swap(&mut best, &mut list);
         }

@@ -17,7 +17,7 @@ use Rattle.plain_enumeration.proofs.largest.largest_stable.Goals.{then-len+then-
 pub audit-requires-clause-pairs : goal.audit-requires-clause-pairs
 audit-requires-clause-pairs c =
     let listed : numbers_of c.deref.result.now ≡ members c.loop-set.set (pair_count c.args.inst.now) =
-    ap numbers_of c.deref.ensures.value ∙ c.in_ok-list_members.ensures ∙ ap (members c.loop-set.set) c.pairs.ensures.count in
+    ap numbers_of c.deref.ensures.value ∙ c.in_ok-list_members.ensures ∙ ap (members c.loop-set.set) c.pairs-count.ensures.count in
     subst (λ (m : List ℕ). ArePairs c.args.inst.now m) (sym listed)
     (record { distinct = chosen_distinct c.args.inst.now (is_member c.loop-set.set); in_range = chosen_in_range c.args.inst.now (is_member c.loop-set.set) })
 
@@ -32,7 +32,7 @@ loop-set-preserved c =
     let best : List ℕ = numbers_of c.loop-set.best.items in
     let so_far : IsLongest lists set best = c.loop-set.invariant.so_far in
     let listed : numbers_of c.list_members.new.list.items ≡ members set (pair_count lists) =
-    c.in_ok-list_members.ensures ∙ ap (members set) c.pairs.ensures.count in
+    c.in_ok-list_members.ensures ∙ ap (members set) c.pairs-count.ensures.count in
     let list_length : length c.list_members.new.list.items ≡ length (members set (pair_count lists)) = lengths c.list_members.new.list.items _ listed in
     let best_length : length c.loop-set.best.items ≡ length best = lengths c.loop-set.best.items _ refl in
     elim c.if-len.branch [
@@ -64,9 +64,15 @@ loop-set-preserved c =
           ]
     ]
 
+-- the last number of the loop, as the shift computes it
+shifted : (n pairs set : ℕ) → n ≡ pairs → pairs ≤ 12 → 1 * 2 ^ n % 4294967296 ≤ set → set ≤ 1 * 2 ^ n % 4294967296 → set ≡ 2 ^ pairs
+shifted n pairs set e few below above =
+    let power : 1 * 2 ^ n % 4294967296 ≡ 2 ^ n = one_shl n 32 (omega arith) in
+    let all : set ≡ 2 ^ n = omega arith in
+    all ∙ ap (λ k. 2 ^ k) e
+
 pub returns-clause-best : goal.returns-clause-best
 returns-clause-best c =
-    let power : 1 * 2 ^ c.pairs-set-end.result % 4294967296 ≡ 2 ^ c.pairs-set-end.result = one_shl c.pairs-set-end.result 32 (omega (arith, c.pairs-set-end.ensures.count, c.requires)) in
-    let count : c.pairs-set-end.result ≡ pair_count c.args.inst.now = c.pairs-set-end.ensures.count in
-    let all : c.loop-set.set ≡ 2 ^ pair_count c.args.inst.now = let some : c.loop-set.set ≡ 2 ^ c.pairs-set-end.result = omega arith in some ∙ ap (λ n. 2 ^ n) count in
+    let all : c.loop-set.set ≡ 2 ^ pair_count c.args.inst.now =
+    shifted c.pairs-count.result _ c.loop-set.set c.pairs-count.ensures.count c.requires c.loop-set-test.false c.loop-set.auto.set-end in
     longest_of_all c.args.inst.now _ (subst (λ (n : ℕ). IsLongest c.args.inst.now n (numbers_of c.loop-set.best.items)) all c.loop-set.invariant.so_far)

@@ -1,0 +1,77 @@
+-- What is known after so many sets were tried, and that the last one leaves a largest stable matching.
+use Rattle.std.proofs.Common.{◌≡◌, ℕ, ◌+◌, ◌^◌, ◌<◌, ◌≤◌, true, List, [], ◌∷◌, get_or, length, ◌⊎◌, inl, inr, refl, sym, ap, ◌∙◌, subst, arith, below_more}
+use Rattle.std.specs.List.Sorted.{IsStrictlyIncreasing}
+use Rattle.std.proofs.lemmas.List.FromFn.{get_or-range_with_len}
+use Rattle.std.proofs.lemmas.List.Kept.{IsStrictlyIncreasing-filter}
+use Rattle.rank_tables.specs.Numbers.{numbers_to}
+use Rattle.rank_tables.specs.Instance.{Lists, pair_count}
+use Rattle.rank_tables.specs.Stability.{is_weakly_stable, Best}
+use Rattle.rank_tables.proofs.Below.{length-numbers_to, numbers_to-range}
+use Rattle.plain_enumeration.specs.Sets.{is_member, members}
+use Rattle.plain_enumeration.proofs.Existence.{stable_exists}
+use Rattle.plain_enumeration.proofs.Sets.{sets_suffice}
+
+-- ---- members rise
+
+place : (n i : ℕ) → i < n → get_or (numbers_to n) i 0 ≡ 1 + i
+place n i h = ap (λ xs. get_or xs i 0) (numbers_to-range n) ∙ get_or-range_with_len 1 n i 0 h
+
+rising-numbers_to : (n : ℕ) → IsStrictlyIncreasing (numbers_to n)
+rising-numbers_to n = λ k h.
+    let long = length-numbers_to n in
+    let here : get_or (numbers_to n) k 0 ≡ 1 + k = place n k (omega arith) in
+    let next : get_or (numbers_to n) (k + 1) 0 ≡ 1 + (k + 1) = place n (k + 1) (omega arith) in
+    omega arith
+
+rising-members : (set n : ℕ) → IsStrictlyIncreasing (members set n)
+rising-members set n = IsStrictlyIncreasing-filter (is_member set) (numbers_to n) (rising-numbers_to n)
+
+-- ---- the best list so far
+
+-- The list is stable or empty, and no set below the number has a longer stable one.
+pub record IsLongest (lists : Lists) (tried : ℕ) (best : List ℕ) : Type 0 where
+  pub kept : (is_weakly_stable lists best ≡ true) ⊎ (best ≡ [])
+  pub rising : IsStrictlyIncreasing best
+  pub longest : (set : ℕ) → set < tried → is_weakly_stable lists (members set (pair_count lists)) ≡ true → length (members set (pair_count lists)) ≤ length best
+
+pub longest_of_none : (lists : Lists) → IsLongest lists 0 []
+longest_of_none lists = record { kept = inr refl; rising = λ k h. absurd (omega arith); longest = λ set h s. absurd (omega arith) }
+
+-- the next set has no longer stable list
+pub longest_still : (lists : Lists) (tried : ℕ) (best : List ℕ) → IsLongest lists tried best →
+    (is_weakly_stable lists (members tried (pair_count lists)) ≡ true → length (members tried (pair_count lists)) ≤ length best) → IsLongest lists (tried + 1) best
+longest_still lists tried best l h = record {
+  kept = l.kept;
+  rising = l.rising;
+  longest = below_more (λ set. is_weakly_stable lists (members set (pair_count lists)) ≡ true → length (members set (pair_count lists)) ≤ length best) tried l.longest h;
+}
+
+-- the next set has one
+pub longest_now : (lists : Lists) (tried : ℕ) (best : List ℕ) → IsLongest lists tried best →
+    is_weakly_stable lists (members tried (pair_count lists)) ≡ true → length best < length (members tried (pair_count lists)) → IsLongest lists (tried + 1) (members tried (pair_count lists))
+longest_now lists tried best l s h = record {
+  kept = inl s;
+  rising = rising-members tried (pair_count lists);
+  longest = below_more (λ set. is_weakly_stable lists (members set (pair_count lists)) ≡ true → length (members set (pair_count lists)) ≤ length (members tried (pair_count lists))) tried
+      (λ set k t. let before : length (members set (pair_count lists)) ≤ length best = l.longest set k t in omega arith)
+      (λ t. omega arith);
+}
+
+no_longer : (m : List ℕ) → length m ≤ 0 → m ≡ []
+no_longer [] h = refl
+no_longer (x ∷ m) h = absurd (omega arith)
+
+-- with all sets tried, an empty list is stable too, since some list is
+pub longest_of_all : (lists : Lists) (best : List ℕ) → IsLongest lists (2 ^ pair_count lists) best → Best lists best
+longest_of_all lists best l =
+    let largest = sets_suffice lists (length best) l.longest in
+    record {
+      stable = elim l.kept [
+        | inl s ↦ s
+        | inr e ↦
+            let some = stable_exists lists in
+            let short : length some.0 ≤ 0 = subst (λ (n : ℕ). length some.0 ≤ n) (ap length e) (largest some.0 some.1) in
+            ap (is_weakly_stable lists) (e ∙ sym (no_longer some.0 short)) ∙ some.1
+      ];
+      largest = largest;
+    }

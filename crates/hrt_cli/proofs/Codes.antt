@@ -194,7 +194,7 @@ prints_best instance old new (rejected (refused r)) due e report = absurd (cc)
 prints_best instance old new (rejected (exceeded limit)) due e report = absurd (cc)
 prints_best instance old new (solved lists) due e report =
     let file = spelled_in (old.content.file instance) lists due in
-    record { bytes = file.bytes; file = file.is_file; lists = lists; spelled = file.spells; pairs = report.pairs; best = report.best; report = report.is_report }
+    record { bytes = file.bytes; file = file.is_file; lists = lists; spelled = file.spells; pairs = report.pairs; best = report.best; rising = report.rising; report = report.is_report }
 
 zero_has_report : (n : ℕ) → n ≡ 0 → has_report n ≡ true
 zero_has_report n e = ap has_report e

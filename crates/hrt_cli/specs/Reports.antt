@@ -1,5 +1,6 @@
 -- The texts of reports. Each line ends with a line feed.
 use Rattle.std.specs.Prelude.{◌≡◌, ℕ, ◌==◌, if◌then◌else◌, List, [], ◌∷◌, ◌++◌, length, flat_map, decimal, codes, slice_get, unwrap_or}
+use Rattle.std.specs.List.Sorted.{IsStrictlyIncreasing}
 use Rattle.rank_tables.specs.Instance.{Lists, pair_count, pair_at, one_sided}
 use Rattle.rank_tables.specs.WellFormed.{names_of_residents, names_of_hospitals}
 use Rattle.rank_tables.specs.Stability.{Best}
@@ -50,6 +51,7 @@ limit_line limit = codes "limit " ++ count_line (name_of limit) (most limit)
 pub record IsSolveReport (lists : Lists) (text : List ℕ) : Type 0 where
   pub pairs : List ℕ
   pub best : Best lists pairs
+  pub rising : IsStrictlyIncreasing pairs
   pub is_report : text ≡ solve_report lists pairs
 
 abbrev pub IsReport : Verdict → List ℕ → Type 0

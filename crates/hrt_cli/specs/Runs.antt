@@ -1,5 +1,6 @@
 -- How a run ends, and what stands after it.
 use Rattle.std.specs.Prelude.{◌≡◌, ◌≤◌, ◌↔◌, ℕ, ◌==◌, ◌||◌, Bool, true, not, List, [], take, Option, Some, None}
+use Rattle.std.specs.List.Sorted.{IsStrictlyIncreasing}
 use Rattle.hrt_base.specs.declared.port.Port.{Port}
 use Rattle.hrt_base.specs.declared.port.Port.TheVariants.{Report}
 use Rattle.hrt_base.specs.declared.host.Begun.TheVariants.{Idle, Writing}
@@ -100,7 +101,7 @@ pub record IsDecided (request : Option Request) (n : ℕ) (old new : World) : Ty
 abbrev pub IsDue : Option Request → ℕ → World → Type 0
 IsDue request n old = (verdict : Verdict) → verdict_of request old.content.file ≡ Some verdict → has_report n ≡ true → n ≡ code_of (status_of verdict)
 
--- the report lists the pairs of a best matching of the instance that the file spells
+-- the report lists the pairs of a best matching of the instance that the file spells, by rising number
 pub record PrintsBest (instance : List ℕ) (old new : Content) : Type 0 where
   pub bytes : List ℕ
   pub file : old.file instance ≡ Some bytes
@@ -108,6 +109,7 @@ pub record PrintsBest (instance : List ℕ) (old new : Content) : Type 0 where
   pub spelled : Spells bytes lists
   pub pairs : List ℕ
   pub best : Best lists pairs
+  pub rising : IsStrictlyIncreasing pairs
   pub report : new.sent Report ≡ solve_report lists pairs
 
 -- every file is as it was

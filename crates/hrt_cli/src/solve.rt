@@ -3,7 +3,6 @@ ghost use Rattle.std.specs.Prelude.{◌≡◌, ◌≤◌, Some, IfOk, IfErr, len
 ghost use Rattle.hrt_base.specs.Calls.{AtStart};
 ghost use Rattle.rank_tables.specs.Instance.{pair_count};
 ghost use Rattle.rank_tables.specs.Tables.{numbers_of, IsPairNo};
-ghost use Rattle.rank_tables.specs.Stability.{Best};
 ghost use Rattle.rank_tables.specs.WellFormed.{most_pairs};
 ghost use Rattle.hrt_cli.specs.Answers.{GivesUp, IsAnswer, IsAnswered};
 ghost use Rattle.hrt_cli.specs.Reports.{pair_line, solve_report};
@@ -13,6 +12,7 @@ ghost use Rattle.hrt_cli.specs.Verdicts.{solved};
 use crate::loading::load;
 use crate::{Answer, Ended, Limit, Report, Status, explain};
 use hrt_base::{Host, NoMemory, PairNo};
+use plain_enumeration::largest_stable;
 use rank_tables::Instance;
 use std::alloc::Global;
 
@@ -63,12 +63,4 @@ fn push_pairs(report: &mut Report, inst: &Instance, pairs: &[PairNo]) -> Result<
         report.push_pair(inst, *pair)?;
     }
     Ok(())
-}
-
-// stands here until the crate of the enumeration lands
-fn largest_stable(_alloc: Global, _inst: &Instance) -> Result<Vec<PairNo>, NoMemory>
-    requires { pair_count _inst.now ≤ 12 }
-    ensures best { IfOk result (λ pairs. Best _inst.now (numbers_of pairs.items)) }
-{
-    Err(NoMemory)
 }

@@ -15,3 +15,4 @@ pub mod Flat
 pub mod WrittenLines
 pub mod PairKinds
 pub mod NameKeys
+pub mod PairsBack

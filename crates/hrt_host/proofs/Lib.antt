@@ -1,0 +1,5 @@
+pub mod Entrance
+pub mod Held
+pub mod Places
+pub mod Plans
+pub mod Rooming

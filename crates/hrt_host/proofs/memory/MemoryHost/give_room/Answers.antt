@@ -3,7 +3,7 @@ use Rattle.std.specs.Prelude.{vec_capacity}
 use Rattle.hrt_host.specs.Memory.{memory_world, memory_plan}
 use Rattle.hrt_host.specs.Seat.{all_below}
 use Rattle.hrt_host.specs.declared.file.File.{File}
-use Rattle.hrt_host.proofs.Held.{writers_most}
+use Rattle.hrt_host.proofs.Slots.{writers_most}
 use Rattle.hrt_host.proofs.memory.MemoryHost.give_room.Goals as goal
 
 pub invariant_of-self-2-clause-below : goal.invariant_of-self-2-clause-below

@@ -2,7 +2,9 @@ use Rattle.std.proofs.Common.{◌≡◌, ◌∙◌, ◌+◌, ◌≤◌, ap₂, L
 use Rattle.std.specs.Prelude.{vec_capacity}
 use Rattle.std.proofs.lemmas.Result.{on_ok_weaker}
 use Rattle.hrt_host.specs.Memory.{memory_world, memory_plan, memory_content, with_file}
-use Rattle.hrt_host.proofs.Held.{all_pushed, pushed_content, writers_most}
+use Rattle.hrt_host.proofs.Below.{all_pushed}
+use Rattle.hrt_host.proofs.Pushed.{pushed_content}
+use Rattle.hrt_host.proofs.Slots.{writers_most}
 use Rattle.hrt_host.proofs.memory.MemoryHost.put_file.Goals as goal
 
 pub invariant_of-self-2-clause-below : goal.invariant_of-self-2-clause-below

@@ -1,7 +1,9 @@
 use Rattle.std.proofs.Common.{◌<◌, ◌+◌, ◌∙◌, ℕ, length, arith, ap, sym}
 use Rattle.hrt_base.specs.World.{put}
 use Rattle.hrt_host.specs.Memory.{memory_world, memory_plan, memory_left}
-use Rattle.hrt_host.proofs.Held.{roomier_world, roomier_left, below_same, writers_same, left_was, left_put, stands_written}
+use Rattle.hrt_host.proofs.Below.{below_same, stands_written}
+use Rattle.hrt_host.proofs.Held.{roomier_world, roomier_left, left_was, left_put}
+use Rattle.hrt_host.proofs.Slots.{writers_same}
 use Rattle.hrt_host.proofs.Plans.{plan_left, on_err_of}
 use Rattle.hrt_host.proofs.memory.MemoryHost.widen.Goals as goal
 

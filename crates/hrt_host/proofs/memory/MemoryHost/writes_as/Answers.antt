@@ -1,6 +1,6 @@
 use Rattle.std.proofs.Common.{◌<◌, ◌∙◌, length, arith}
 use Rattle.hrt_host.specs.Memory.{memory_world, memory_plan}
-use Rattle.hrt_host.proofs.Held.{written_as}
+use Rattle.hrt_host.proofs.Below.{written_as}
 use Rattle.hrt_host.proofs.memory.MemoryHost.writes_as.Goals as goal
 
 pub returns : goal.returns

@@ -1,7 +1,9 @@
 use Rattle.std.proofs.Common.{◌<◌, length, arith, ◌≡◌, Some}
 use Rattle.hrt_host.specs.Memory.{memory_world, memory_plan}
 use Rattle.hrt_host.specs.Seat.{file_of, bytes_at}
-use Rattle.hrt_host.proofs.Held.{read_opened, below_opened, writers_opened, left_idle}
+use Rattle.hrt_host.proofs.Below.{below_opened}
+use Rattle.hrt_host.proofs.Held.{read_opened, left_idle}
+use Rattle.hrt_host.proofs.Slots.{writers_opened}
 use Rattle.hrt_host.proofs.Plans.{plan_same}
 use Rattle.hrt_host.proofs.memory.MemoryHostHost.begin_read.Goals as goal
 

@@ -3,7 +3,9 @@ use Rattle.std.specs.Prelude.{unwrap_or}
 use Rattle.hrt_base.specs.World.{put}
 use Rattle.hrt_host.specs.declared.file.File.{File}
 use Rattle.hrt_host.specs.Memory.{memory_world, memory_plan, memory_left}
-use Rattle.hrt_host.proofs.Held.{write_started, below_started, writers_started, left_put}
+use Rattle.hrt_host.proofs.Below.{below_started}
+use Rattle.hrt_host.proofs.Held.{write_started, left_put}
+use Rattle.hrt_host.proofs.Slots.{writers_started}
 use Rattle.hrt_host.proofs.Plans.{plan_after}
 use Rattle.hrt_host.proofs.memory.MemoryHostHost.begin_write.Goals as goal
 

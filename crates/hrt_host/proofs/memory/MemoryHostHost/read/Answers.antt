@@ -1,6 +1,8 @@
 use Rattle.std.proofs.Common.{◌<◌, ◌∙◌, min, List, ℕ, length, ap, sym, arith}
 use Rattle.hrt_host.specs.Memory.{memory_world, memory_plan, memory_content}
-use Rattle.hrt_host.proofs.Held.{read_taken, rest_was, read_left, below_reads, writers_reading}
+use Rattle.hrt_host.proofs.Below.{below_reads}
+use Rattle.hrt_host.proofs.Held.{read_taken, rest_was, read_left}
+use Rattle.hrt_host.proofs.Slots.{writers_reading}
 use Rattle.hrt_host.proofs.Plans.{plan_same, moved_none}
 use Rattle.hrt_host.proofs.memory.MemoryHostHost.read.Goals as goal
 

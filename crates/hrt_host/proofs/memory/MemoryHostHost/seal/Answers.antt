@@ -1,7 +1,9 @@
 use Rattle.std.proofs.Common.{◌<◌, length, arith, refl}
 use Rattle.std.specs.Prelude.{vec_capacity}
 use Rattle.hrt_host.specs.Memory.{memory_world, memory_plan}
-use Rattle.hrt_host.proofs.Held.{write_sealed, below_sealed, slots_sealed, writer_counted, left_none}
+use Rattle.hrt_host.proofs.Held.{left_none}
+use Rattle.hrt_host.proofs.Sealing.{write_sealed, below_sealed, slots_sealed}
+use Rattle.hrt_host.proofs.Slots.{writer_counted}
 use Rattle.hrt_host.proofs.Plans.{plan_after}
 use Rattle.hrt_host.proofs.memory.MemoryHostHost.seal.Goals as goal
 

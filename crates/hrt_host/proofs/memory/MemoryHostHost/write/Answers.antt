@@ -2,7 +2,9 @@ use Rattle.std.proofs.Common.{◌<◌, ◌≡◌, ◌-◌, ◌∙◌, ℕ, min, 
 use Rattle.std.proofs.lemmas.List.{length-take}
 use Rattle.hrt_base.specs.World.{put}
 use Rattle.hrt_host.specs.Memory.{memory_world, memory_plan, memory_left}
-use Rattle.hrt_host.proofs.Held.{write_sent, not_sealed, stands_written, left_was, left_put, below_same, writers_same}
+use Rattle.hrt_host.proofs.Below.{not_sealed, stands_written, below_same}
+use Rattle.hrt_host.proofs.Held.{write_sent, left_was, left_put}
+use Rattle.hrt_host.proofs.Slots.{writers_same}
 use Rattle.hrt_host.proofs.Plans.{plan_after, no_room, some_room}
 use Rattle.hrt_host.proofs.memory.MemoryHostHost.write.Goals as goal
 

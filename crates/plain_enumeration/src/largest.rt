@@ -22,7 +22,7 @@ pub fn largest_stable(alloc: Global, inst: &Instance) -> Result<Vec<PairNo>, NoM
     let count = inst.pairs();
     let mut auditor = Auditor::new(alloc, inst)?;
     let mut list = Vec::new(alloc);
-    // Some list is stable, so the empty one is where no longer one is.
+    // Every instance has a stable list. Where none of one pair or more is stable, the empty one is.
     let mut best = Vec::new(alloc);
     for set in 0..1u32 << count {
         list_members(set, count, &mut list)?;

@@ -4,5 +4,7 @@
 
 mod largest;
 mod members;
+#[cfg(test)]
+mod tests;
 
 pub use largest::largest_stable;

@@ -11,7 +11,7 @@ use Rattle.hrt_reader.specs.Refusal.{Refusal, Spells, refusal, lists_of_rows}
 use Rattle.hrt_cli.specs.declared.limit.Limit.{Limit}
 use Rattle.hrt_cli.specs.declared.limit.Limit.TheVariants.{Residents, Hospitals, TriedPairs, InstanceBytes}
 use Rattle.hrt_cli.specs.declared.status.Status.{Status}
-use Rattle.hrt_cli.specs.declared.status.Status.TheVariants.{Done, Misused, InstanceRefused, ReadFault, WriteFault, NoMemory, LimitExceeded}
+use Rattle.hrt_cli.specs.declared.status.Status.TheVariants.{Done, Misused, InstanceRefused, ReadFault, WriteFault, NoMemory, LimitExceeded, AuditNo, PairsRefused}
 use Rattle.hrt_cli.specs.Limits.{most}
 use Rattle.hrt_cli.specs.Reports.{IsReport, IsSolveReport}
 use Rattle.hrt_cli.specs.Requests.{Request, solve}
@@ -28,6 +28,8 @@ read_fault told request Done old new ends e = absurd (cc)
 read_fault told request Misused old new ends e = absurd (cc)
 read_fault told request InstanceRefused old new ends e = absurd (cc)
 read_fault told request LimitExceeded old new ends e = absurd (cc)
+read_fault told request AuditNo old new ends e = absurd (cc)
+read_fault told request PairsRefused old new ends e = absurd (cc)
 
 pub write_fault : (told : Type 0) (request : Option Request) (status : Status) (old new : World) → EndsAs told request status old new → code_of status ≡ 5
     → Rose old.write_faults new.write_faults
@@ -38,6 +40,8 @@ write_fault told request Done old new ends e = absurd (cc)
 write_fault told request Misused old new ends e = absurd (cc)
 write_fault told request InstanceRefused old new ends e = absurd (cc)
 write_fault told request LimitExceeded old new ends e = absurd (cc)
+write_fault told request AuditNo old new ends e = absurd (cc)
+write_fault told request PairsRefused old new ends e = absurd (cc)
 
 pub after_read_fault : (told : Type 0) (request : Option Request) (status : Status) (old new : World) → EndsAs told request status old new → told → code_of status ≡ 4
     → SendsNothing old.content new.content
@@ -48,6 +52,8 @@ after_read_fault told request Done old new ends t e = absurd (cc)
 after_read_fault told request Misused old new ends t e = absurd (cc)
 after_read_fault told request InstanceRefused old new ends t e = absurd (cc)
 after_read_fault told request LimitExceeded old new ends t e = absurd (cc)
+after_read_fault told request AuditNo old new ends t e = absurd (cc)
+after_read_fault told request PairsRefused old new ends t e = absurd (cc)
 
 pub after_write_fault : (told : Type 0) (request : Option Request) (status : Status) (old new : World) → EndsAs told request status old new → told → code_of status ≡ 5
     → IsCutShort request old new
@@ -58,6 +64,8 @@ after_write_fault told request Done old new ends t e = absurd (cc)
 after_write_fault told request Misused old new ends t e = absurd (cc)
 after_write_fault told request InstanceRefused old new ends t e = absurd (cc)
 after_write_fault told request LimitExceeded old new ends t e = absurd (cc)
+after_write_fault told request AuditNo old new ends t e = absurd (cc)
+after_write_fault told request PairsRefused old new ends t e = absurd (cc)
 
 pub after_no_memory : (told : Type 0) (request : Option Request) (status : Status) (old new : World) → EndsAs told request status old new → told → code_of status ≡ 6
     → SendsNothing old.content new.content
@@ -68,6 +76,8 @@ after_no_memory told request Done old new ends t e = absurd (cc)
 after_no_memory told request Misused old new ends t e = absurd (cc)
 after_no_memory told request InstanceRefused old new ends t e = absurd (cc)
 after_no_memory told request LimitExceeded old new ends t e = absurd (cc)
+after_no_memory told request AuditNo old new ends t e = absurd (cc)
+after_no_memory told request PairsRefused old new ends t e = absurd (cc)
 
 -- a code with a report comes of a report
 reported : (told : Type 0) (request : Option Request) (status : Status) (old new : World) → EndsAs told request status old new → has_report (code_of status) ≡ true
@@ -76,6 +86,8 @@ reported told request Done old new ends has = ends
 reported told request Misused old new ends has = ends
 reported told request InstanceRefused old new ends has = ends
 reported told request LimitExceeded old new ends has = ends
+reported told request AuditNo old new ends has = ends
+reported told request PairsRefused old new ends has = ends
 reported told request ReadFault old new ends has = absurd (cc)
 reported told request WriteFault old new ends has = absurd (cc)
 reported told request NoMemory old new ends has = absurd (cc)
@@ -106,6 +118,8 @@ misused_code told request ReadFault old new ends e = absurd (cc)
 misused_code told request WriteFault old new ends e = absurd (cc)
 misused_code told request NoMemory old new ends e = absurd (cc)
 misused_code told request LimitExceeded old new ends e = absurd (cc)
+misused_code told request AuditNo old new ends e = absurd (cc)
+misused_code told request PairsRefused old new ends e = absurd (cc)
 
 pub understood_code : (told : Type 0) (request : Option Request) (status : Status) (old new : World) → EndsAs told request status old new → request ≡ None
     → (code_of status ≡ 2) ⊎ (code_of status ≡ 5)
@@ -114,6 +128,8 @@ understood_code told request WriteFault old new ends e = inr refl
 understood_code told request Done old new ends e = inl (ap code_of (ends.understood.1 e))
 understood_code told request InstanceRefused old new ends e = inl (ap code_of (ends.understood.1 e))
 understood_code told request LimitExceeded old new ends e = inl (ap code_of (ends.understood.1 e))
+understood_code told request AuditNo old new ends e = inl (ap code_of (ends.understood.1 e))
+understood_code told request PairsRefused old new ends e = inl (ap code_of (ends.understood.1 e))
 understood_code told request ReadFault old new ends e = absurd (ends.understood e)
 understood_code told request NoMemory old new ends e = absurd (ends.understood e)
 
@@ -125,6 +141,8 @@ files_kept told request Done old new ends t = (ends.reported t).alone.files
 files_kept told request Misused old new ends t = (ends.reported t).alone.files
 files_kept told request InstanceRefused old new ends t = (ends.reported t).alone.files
 files_kept told request LimitExceeded old new ends t = (ends.reported t).alone.files
+files_kept told request AuditNo old new ends t = (ends.reported t).alone.files
+files_kept told request PairsRefused old new ends t = (ends.reported t).alone.files
 
 pub known : (status : Status) → is_code (code_of status) ≡ true
 known Done = refl
@@ -134,6 +152,8 @@ known ReadFault = refl
 known WriteFault = refl
 known NoMemory = refl
 known LimitExceeded = refl
+known AuditNo = refl
+known PairsRefused = refl
 
 -- ---- the printed pairs
 

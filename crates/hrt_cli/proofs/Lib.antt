@@ -1,3 +1,4 @@
+mod Auditing
 mod Codes
 mod Ports
 mod Runs

@@ -17,7 +17,7 @@ use Rattle.hrt_cli.specs.Reports.{IsReport, IsSolveReport}
 use Rattle.hrt_cli.specs.Requests.{Request, solve}
 use Rattle.hrt_cli.specs.Runs.{EndsAs, IsCutShort, IsDecided, IsDue, IsReported, Reported, KeepsFiles, PrintsBest, SendsNothing, has_report, is_code}
 use Rattle.hrt_cli.specs.Statuses.{code_of}
-use Rattle.hrt_cli.specs.Verdicts.{Rejection, Verdict, misused, refused, exceeded, rejected, solved, due as due_for, lists_in, solve_verdict, status_of, unless_refused, verdict_of, within}
+use Rattle.hrt_cli.specs.Verdicts.{Rejection, Verdict, misused, refused, exceeded, pairs_refused, rejected, solved, audited, due as due_for, lists_in, solve_verdict, status_of, unless_refused, verdict_of, within}
 
 pub read_fault : (told : Type 0) (request : Option Request) (status : Status) (old new : World) → EndsAs told request status old new → code_of status ≡ 4
     → Rose old.read_faults new.read_faults
@@ -207,13 +207,24 @@ spelled_in (Some bytes) lists e = record {
   spells = spelled bytes lists (taken (lists_in bytes) lists (some_is (solve_verdict bytes) (solved lists) e));
 }
 
+due_not_audited : (r : Result Lists Rejection) (lists : Lists) (pairs : List ℕ) → due_for r solved ≡ audited lists pairs → ⊥
+due_not_audited (Err rejection) lists pairs e = absurd (cc)
+due_not_audited (Ok found) lists pairs e = absurd (cc)
+
+not_audited : (file : Option (List ℕ)) (lists : Lists) (pairs : List ℕ) → option_map solve_verdict file ≡ Some (audited lists pairs) → ⊥
+not_audited None lists pairs e = absurd (cc)
+not_audited (Some bytes) lists pairs e =
+    due_not_audited (within TriedPairs (lists_in bytes)) lists pairs (some_is (solve_verdict bytes) (audited lists pairs) e)
+
 prints_best : (instance : List ℕ) (old new : World) (verdict : Verdict) → verdict_of (Some (solve instance)) old.content.file ≡ Some verdict → code_of (status_of verdict) ≡ 0
     → IsReport verdict (new.content.sent Report) → PrintsBest instance old.content new.content
-prints_best instance old new misused due e report = absurd (cc)
-prints_best instance old new (rejected (refused r)) due e report = absurd (cc)
-prints_best instance old new (rejected (exceeded limit)) due e report = absurd (cc)
-prints_best instance old new (solved lists) due e report =
-    let file = spelled_in (old.content.file instance) lists due in
+prints_best instance old new misused is e report = absurd (cc)
+prints_best instance old new (rejected (refused r)) is e report = absurd (cc)
+prints_best instance old new (rejected (exceeded limit)) is e report = absurd (cc)
+prints_best instance old new (rejected (pairs_refused r)) is e report = absurd (cc)
+prints_best instance old new (audited lists pairs) is e report = absurd (not_audited (old.content.file instance) lists pairs is)
+prints_best instance old new (solved lists) is e report =
+    let file = spelled_in (old.content.file instance) lists is in
     record { bytes = file.bytes; file = file.is_file; lists = lists; spelled = file.spells; pairs = report.pairs; best = report.best; rising = report.rising; report = report.is_report }
 
 zero_has_report : (n : ℕ) → n ≡ 0 → has_report n ≡ true

@@ -1,4 +1,4 @@
-mod Auditing
+mod AuditedPairs
 mod Codes
 mod Ports
 mod Runs

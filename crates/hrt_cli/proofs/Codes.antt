@@ -11,13 +11,13 @@ use Rattle.hrt_reader.specs.Refusal.{Refusal, Spells, refusal, lists_of_rows}
 use Rattle.hrt_cli.specs.declared.limit.Limit.{Limit}
 use Rattle.hrt_cli.specs.declared.limit.Limit.TheVariants.{Residents, Hospitals, TriedPairs, InstanceBytes}
 use Rattle.hrt_cli.specs.declared.status.Status.{Status}
-use Rattle.hrt_cli.specs.declared.status.Status.TheVariants.{Done, Misused, InstanceRefused, ReadFault, WriteFault, NoMemory, LimitExceeded}
+use Rattle.hrt_cli.specs.declared.status.Status.TheVariants.{Done, Misused, InstanceRefused, ReadFault, WriteFault, NoMemory, LimitExceeded, AuditNo, PairsRefused}
 use Rattle.hrt_cli.specs.Limits.{most}
 use Rattle.hrt_cli.specs.Reports.{IsReport, IsSolveReport}
 use Rattle.hrt_cli.specs.Requests.{Request, solve}
 use Rattle.hrt_cli.specs.Runs.{EndsAs, IsCutShort, IsDecided, IsDue, IsReported, Reported, KeepsFiles, PrintsBest, SendsNothing, has_report, is_code}
 use Rattle.hrt_cli.specs.Statuses.{code_of}
-use Rattle.hrt_cli.specs.Verdicts.{Rejection, Verdict, misused, refused, exceeded, rejected, solved, due as due_for, lists_in, solve_verdict, status_of, unless_refused, verdict_of, within}
+use Rattle.hrt_cli.specs.Verdicts.{Rejection, Verdict, misused, refused, exceeded, pairs_refused, rejected, solved, audited, due as due_for, lists_in, solve_verdict, status_of, unless_refused, verdict_of, within}
 
 pub read_fault : (told : Type 0) (request : Option Request) (status : Status) (old new : World) → EndsAs told request status old new → code_of status ≡ 4
     → Rose old.read_faults new.read_faults
@@ -28,6 +28,8 @@ read_fault told request Done old new ends e = absurd (cc)
 read_fault told request Misused old new ends e = absurd (cc)
 read_fault told request InstanceRefused old new ends e = absurd (cc)
 read_fault told request LimitExceeded old new ends e = absurd (cc)
+read_fault told request AuditNo old new ends e = absurd (cc)
+read_fault told request PairsRefused old new ends e = absurd (cc)
 
 pub write_fault : (told : Type 0) (request : Option Request) (status : Status) (old new : World) → EndsAs told request status old new → code_of status ≡ 5
     → Rose old.write_faults new.write_faults
@@ -38,6 +40,8 @@ write_fault told request Done old new ends e = absurd (cc)
 write_fault told request Misused old new ends e = absurd (cc)
 write_fault told request InstanceRefused old new ends e = absurd (cc)
 write_fault told request LimitExceeded old new ends e = absurd (cc)
+write_fault told request AuditNo old new ends e = absurd (cc)
+write_fault told request PairsRefused old new ends e = absurd (cc)
 
 pub after_read_fault : (told : Type 0) (request : Option Request) (status : Status) (old new : World) → EndsAs told request status old new → told → code_of status ≡ 4
     → SendsNothing old.content new.content
@@ -48,6 +52,8 @@ after_read_fault told request Done old new ends t e = absurd (cc)
 after_read_fault told request Misused old new ends t e = absurd (cc)
 after_read_fault told request InstanceRefused old new ends t e = absurd (cc)
 after_read_fault told request LimitExceeded old new ends t e = absurd (cc)
+after_read_fault told request AuditNo old new ends t e = absurd (cc)
+after_read_fault told request PairsRefused old new ends t e = absurd (cc)
 
 pub after_write_fault : (told : Type 0) (request : Option Request) (status : Status) (old new : World) → EndsAs told request status old new → told → code_of status ≡ 5
     → IsCutShort request old new
@@ -58,6 +64,8 @@ after_write_fault told request Done old new ends t e = absurd (cc)
 after_write_fault told request Misused old new ends t e = absurd (cc)
 after_write_fault told request InstanceRefused old new ends t e = absurd (cc)
 after_write_fault told request LimitExceeded old new ends t e = absurd (cc)
+after_write_fault told request AuditNo old new ends t e = absurd (cc)
+after_write_fault told request PairsRefused old new ends t e = absurd (cc)
 
 pub after_no_memory : (told : Type 0) (request : Option Request) (status : Status) (old new : World) → EndsAs told request status old new → told → code_of status ≡ 6
     → SendsNothing old.content new.content
@@ -68,6 +76,8 @@ after_no_memory told request Done old new ends t e = absurd (cc)
 after_no_memory told request Misused old new ends t e = absurd (cc)
 after_no_memory told request InstanceRefused old new ends t e = absurd (cc)
 after_no_memory told request LimitExceeded old new ends t e = absurd (cc)
+after_no_memory told request AuditNo old new ends t e = absurd (cc)
+after_no_memory told request PairsRefused old new ends t e = absurd (cc)
 
 -- a code with a report comes of a report
 reported : (told : Type 0) (request : Option Request) (status : Status) (old new : World) → EndsAs told request status old new → has_report (code_of status) ≡ true
@@ -76,6 +86,8 @@ reported told request Done old new ends has = ends
 reported told request Misused old new ends has = ends
 reported told request InstanceRefused old new ends has = ends
 reported told request LimitExceeded old new ends has = ends
+reported told request AuditNo old new ends has = ends
+reported told request PairsRefused old new ends has = ends
 reported told request ReadFault old new ends has = absurd (cc)
 reported told request WriteFault old new ends has = absurd (cc)
 reported told request NoMemory old new ends has = absurd (cc)
@@ -106,6 +118,8 @@ misused_code told request ReadFault old new ends e = absurd (cc)
 misused_code told request WriteFault old new ends e = absurd (cc)
 misused_code told request NoMemory old new ends e = absurd (cc)
 misused_code told request LimitExceeded old new ends e = absurd (cc)
+misused_code told request AuditNo old new ends e = absurd (cc)
+misused_code told request PairsRefused old new ends e = absurd (cc)
 
 pub understood_code : (told : Type 0) (request : Option Request) (status : Status) (old new : World) → EndsAs told request status old new → request ≡ None
     → (code_of status ≡ 2) ⊎ (code_of status ≡ 5)
@@ -114,6 +128,8 @@ understood_code told request WriteFault old new ends e = inr refl
 understood_code told request Done old new ends e = inl (ap code_of (ends.understood.1 e))
 understood_code told request InstanceRefused old new ends e = inl (ap code_of (ends.understood.1 e))
 understood_code told request LimitExceeded old new ends e = inl (ap code_of (ends.understood.1 e))
+understood_code told request AuditNo old new ends e = inl (ap code_of (ends.understood.1 e))
+understood_code told request PairsRefused old new ends e = inl (ap code_of (ends.understood.1 e))
 understood_code told request ReadFault old new ends e = absurd (ends.understood e)
 understood_code told request NoMemory old new ends e = absurd (ends.understood e)
 
@@ -125,6 +141,8 @@ files_kept told request Done old new ends t = (ends.reported t).alone.files
 files_kept told request Misused old new ends t = (ends.reported t).alone.files
 files_kept told request InstanceRefused old new ends t = (ends.reported t).alone.files
 files_kept told request LimitExceeded old new ends t = (ends.reported t).alone.files
+files_kept told request AuditNo old new ends t = (ends.reported t).alone.files
+files_kept told request PairsRefused old new ends t = (ends.reported t).alone.files
 
 pub known : (status : Status) → is_code (code_of status) ≡ true
 known Done = refl
@@ -134,6 +152,8 @@ known ReadFault = refl
 known WriteFault = refl
 known NoMemory = refl
 known LimitExceeded = refl
+known AuditNo = refl
+known PairsRefused = refl
 
 -- ---- the printed pairs
 
@@ -187,13 +207,24 @@ spelled_in (Some bytes) lists e = record {
   spells = spelled bytes lists (taken (lists_in bytes) lists (some_is (solve_verdict bytes) (solved lists) e));
 }
 
+due_not_audited : (r : Result Lists Rejection) (lists : Lists) (pairs : List ℕ) → due_for r solved ≡ audited lists pairs → ⊥
+due_not_audited (Err rejection) lists pairs e = absurd (cc)
+due_not_audited (Ok found) lists pairs e = absurd (cc)
+
+not_audited : (file : Option (List ℕ)) (lists : Lists) (pairs : List ℕ) → option_map solve_verdict file ≡ Some (audited lists pairs) → ⊥
+not_audited None lists pairs e = absurd (cc)
+not_audited (Some bytes) lists pairs e =
+    due_not_audited (within TriedPairs (lists_in bytes)) lists pairs (some_is (solve_verdict bytes) (audited lists pairs) e)
+
 prints_best : (instance : List ℕ) (old new : World) (verdict : Verdict) → verdict_of (Some (solve instance)) old.content.file ≡ Some verdict → code_of (status_of verdict) ≡ 0
     → IsReport verdict (new.content.sent Report) → PrintsBest instance old.content new.content
-prints_best instance old new misused due e report = absurd (cc)
-prints_best instance old new (rejected (refused r)) due e report = absurd (cc)
-prints_best instance old new (rejected (exceeded limit)) due e report = absurd (cc)
-prints_best instance old new (solved lists) due e report =
-    let file = spelled_in (old.content.file instance) lists due in
+prints_best instance old new misused is e report = absurd (cc)
+prints_best instance old new (rejected (refused r)) is e report = absurd (cc)
+prints_best instance old new (rejected (exceeded limit)) is e report = absurd (cc)
+prints_best instance old new (rejected (pairs_refused r)) is e report = absurd (cc)
+prints_best instance old new (audited lists pairs) is e report = absurd (not_audited (old.content.file instance) lists pairs is)
+prints_best instance old new (solved lists) is e report =
+    let file = spelled_in (old.content.file instance) lists is in
     record { bytes = file.bytes; file = file.is_file; lists = lists; spelled = file.spells; pairs = report.pairs; best = report.best; rising = report.rising; report = report.is_report }
 
 zero_has_report : (n : ℕ) → n ≡ 0 → has_report n ≡ true

@@ -1,3 +1,4 @@
+mod AuditedPairs
 mod Codes
 mod Ports
 mod Runs

@@ -11,7 +11,7 @@ use Rattle.hrt_base.specs.World.{World, Content, port_no, put, appended, sealed,
 use Rattle.hrt_base.proofs.Pieces.{port_no-injective, put_here}
 use Rattle.hrt_cli.specs.declared.answer.Answer.{Answer}
 use Rattle.hrt_cli.specs.declared.status.Status.{Status}
-use Rattle.hrt_cli.specs.declared.status.Status.TheVariants.{Done, Misused, InstanceRefused, ReadFault, WriteFault, NoMemory, LimitExceeded}
+use Rattle.hrt_cli.specs.declared.status.Status.TheVariants.{Done, Misused, InstanceRefused, ReadFault, WriteFault, NoMemory, LimitExceeded, AuditNo, PairsRefused}
 use Rattle.hrt_cli.specs.Answers.{IsAnswer, IsAnswered, IsReadOut, PassedAt, is_on_files}
 use Rattle.hrt_cli.specs.Inputs.{OnlyRead, but_for_rest}
 use Rattle.hrt_cli.specs.Loading.{FailedToRead}
@@ -96,6 +96,8 @@ ends_on_files told request ReadFault old new on asked closed reported = absurd (
 ends_on_files told request WriteFault old new on asked closed reported = absurd (cc)
 ends_on_files told request NoMemory old new on asked closed reported = absurd (cc)
 ends_on_files told request LimitExceeded old new on asked closed reported = reported_of told request LimitExceeded old new (λ e. absurd (cc)) asked closed reported
+ends_on_files told request AuditNo old new on asked closed reported = reported_of told request AuditNo old new (λ e. absurd (cc)) asked closed reported
+ends_on_files told request PairsRefused old new on asked closed reported = reported_of told request PairsRefused old new (λ e. absurd (cc)) asked closed reported
 
 whole_alone : (told : Type 0) (text : List ℕ) (old mid new : World) → AtStart told old → OnlyRead told old mid → IsSentWhole told text mid new → told
     → ReportsAlone old.content new.content

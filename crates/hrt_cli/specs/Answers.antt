@@ -6,19 +6,20 @@ use Rattle.hrt_base.specs.declared.host.Begun.TheVariants.{Reading}
 use Rattle.hrt_base.specs.Calls.{Rose}
 use Rattle.hrt_base.specs.World.{World}
 use Rattle.hrt_reader.specs.Kinds.{number}
+use Rattle.hrt_reader.specs.PairsAnswer.{pairs_number}
 use Rattle.hrt_cli.specs.declared.limit.Limit.TheVariants.{InstanceBytes, PairsBytes}
 use Rattle.hrt_cli.specs.declared.answer.Answer.{Answer}
 use Rattle.hrt_cli.specs.declared.status.Status.{Status}
 use Rattle.hrt_cli.specs.declared.status.Status.TheVariants as status
 use Rattle.hrt_cli.specs.declared.stop.Stop.{Stop}
-use Rattle.hrt_cli.specs.declared.stop.Stop.TheVariants.{Refused, Exceeded, ReadFault, NoMemory}
+use Rattle.hrt_cli.specs.declared.stop.Stop.TheVariants.{Refused, Exceeded, PairsRefused, ReadFault, NoMemory}
 use Rattle.hrt_cli.specs.declared.stop.Ended.{Ended}
 use Rattle.hrt_cli.specs.declared.stop.Ended.TheVariants as ended
 use Rattle.hrt_cli.specs.Inputs.{OnlyRead}
 use Rattle.hrt_cli.specs.Loading.{FailedToRead}
 use Rattle.hrt_cli.specs.Reports.{IsReport}
 use Rattle.hrt_cli.specs.Requests.{Request}
-use Rattle.hrt_cli.specs.Verdicts.{Verdict, rejected, refused, exceeded, verdict_of, status_of}
+use Rattle.hrt_cli.specs.Verdicts.{Verdict, rejected, refused, exceeded, pairs_refused, verdict_of, status_of}
 
 -- a status that tells a verdict on the files
 abbrev pub is_on_files : Status → Bool
@@ -29,6 +30,8 @@ is_on_files status.ReadFault = false
 is_on_files status.WriteFault = false
 is_on_files status.NoMemory = false
 is_on_files status.LimitExceeded = true
+is_on_files status.AuditNo = true
+is_on_files status.PairsRefused = true
 
 -- the status and the report of a verdict
 pub record IsAnswer (verdict : Verdict) (answer : Answer) : Type 0 where
@@ -39,6 +42,7 @@ pub record IsAnswer (verdict : Verdict) (answer : Answer) : Type 0 where
 abbrev pub Explains : Stop → Answer → Type 0
 Explains (Refused kind line) answer = IsAnswer (rejected (refused (record { line = line; kind = number kind }))) answer
 Explains (Exceeded limit) answer = IsAnswer (rejected (exceeded limit)) answer
+Explains (PairsRefused kind line) answer = IsAnswer (rejected (pairs_refused (record { line = line; kind = pairs_number kind }))) answer
 Explains ReadFault answer = ⊥
 Explains NoMemory answer = ⊥
 

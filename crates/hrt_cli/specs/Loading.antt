@@ -1,23 +1,25 @@
 -- What the loading of an instance comes to.
 use Rattle.std.specs.Prelude.{◌≡◌, ◌≤◌, ◌⊎◌, ℕ, List, [], Some, Result, Ok, Err}
-use Rattle.hrt_base.specs.declared.port.Port.TheVariants.{Instance}
+use Rattle.hrt_base.specs.declared.port.Port.TheVariants.{Instance, Pairs}
 use Rattle.hrt_base.specs.declared.host.Begun.TheVariants.{Reading}
 use Rattle.hrt_base.specs.Calls.{Rose}
 use Rattle.hrt_base.specs.World.{World, put, with_rest}
 use Rattle.rank_tables.specs.Instance.{Lists, pair_count}
 use Rattle.hrt_reader.specs.Kinds.{number}
+use Rattle.hrt_reader.specs.PairsAnswer.{pairs_number}
 use Rattle.hrt_cli.specs.declared.limit.Limit.{Limit}
-use Rattle.hrt_cli.specs.declared.limit.Limit.TheVariants.{InstanceBytes}
+use Rattle.hrt_cli.specs.declared.limit.Limit.TheVariants.{InstanceBytes, PairsBytes}
 use Rattle.hrt_cli.specs.declared.stop.Stop.{Stop}
-use Rattle.hrt_cli.specs.declared.stop.Stop.TheVariants.{Refused, Exceeded, ReadFault, NoMemory}
+use Rattle.hrt_cli.specs.declared.stop.Stop.TheVariants.{Refused, Exceeded, PairsRefused, ReadFault, NoMemory}
 use Rattle.hrt_cli.specs.Inputs.{OnlyRead}
 use Rattle.hrt_cli.specs.Limits.{most}
-use Rattle.hrt_cli.specs.Verdicts.{Rejection, refused, exceeded, lists_in, within}
+use Rattle.hrt_cli.specs.Verdicts.{Rejection, Verdict, refused, exceeded, pairs_refused, rejected, audited, audit_verdict, lists_in, within}
 
 -- the lists of a text could not be had, and this is why
 abbrev pub StopsText : Result Lists Rejection → Stop → Type 0
 StopsText lists (Refused kind line) = lists ≡ Err (refused (record { line = line; kind = number kind }))
 StopsText lists (Exceeded limit) = lists ≡ Err (exceeded limit)
+StopsText lists (PairsRefused kind line) = ⊥
 StopsText lists ReadFault = ⊥
 StopsText lists NoMemory = Unit {0}
 
@@ -44,5 +46,38 @@ pub record FailedToRead (told : Type 0) (old new : World) : Type 0 where
 abbrev pub StopsLoading : (told : Type 0) → List ℕ → Limit → Stop → World → World → Type 0
 StopsLoading told name limit (Refused kind line) old new = IsRejected told name limit (refused (record { line = line; kind = number kind })) old new
 StopsLoading told name limit (Exceeded what) old new = IsRejected told name limit (exceeded what) old new
+StopsLoading told name limit (PairsRefused kind line) old new = ⊥
 StopsLoading told name limit ReadFault old new = FailedToRead told old new
 StopsLoading told name limit NoMemory old new = OnlyRead told old new
+
+-- ---- pairs
+
+-- the pairs of a text could not be had, and this is why
+abbrev pub StopsPairsText : Verdict → Stop → Type 0
+StopsPairsText verdict (Refused kind line) = ⊥
+StopsPairsText verdict (Exceeded limit) = ⊥
+StopsPairsText verdict (PairsRefused kind line) = verdict ≡ rejected (pairs_refused (record { line = line; kind = pairs_number kind }))
+StopsPairsText verdict ReadFault = ⊥
+StopsPairsText verdict NoMemory = Unit {0}
+
+-- the file was read to its end and spells these pairs of the instance
+pub record ArePairsLoaded (told : Type 0) (name : List ℕ) (lists : Lists) (pairs : List ℕ) (old new : World) : Type 0 where
+  pub only_read : OnlyRead told old new
+  pub begun : new.begun ≡ put Pairs Reading old.begun
+  pub content : told → new.content ≡ with_rest Pairs [] old.content
+  pub spelled : told → (bytes : List ℕ) × (old.content.file name ≡ Some bytes) × (audit_verdict lists bytes ≡ audited lists pairs)
+
+-- the file was read to its end, or further than its limit, and is not taken
+pub record ArePairsRejected (told : Type 0) (name : List ℕ) (lists : Lists) (rejection : Rejection) (old new : World) : Type 0 where
+  pub only_read : OnlyRead told old new
+  pub begun : new.begun ≡ put Pairs Reading old.begun
+  pub content : told → new.content ≡ with_rest Pairs (new.content.rest Pairs) old.content
+  pub out : told → (new.content.rest Pairs ≡ []) ⊎ (rejection ≡ exceeded PairsBytes)
+  pub due : told → (bytes : List ℕ) × (old.content.file name ≡ Some bytes) × (audit_verdict lists bytes ≡ rejected rejection)
+
+abbrev pub StopsLoadingPairs : (told : Type 0) → List ℕ → Lists → Stop → World → World → Type 0
+StopsLoadingPairs told name lists (Refused kind line) old new = ⊥
+StopsLoadingPairs told name lists (Exceeded what) old new = ArePairsRejected told name lists (exceeded what) old new
+StopsLoadingPairs told name lists (PairsRefused kind line) old new = ArePairsRejected told name lists (pairs_refused (record { line = line; kind = pairs_number kind })) old new
+StopsLoadingPairs told name lists ReadFault old new = FailedToRead told old new
+StopsLoadingPairs told name lists NoMemory old new = OnlyRead told old new

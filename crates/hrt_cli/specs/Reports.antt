@@ -1,13 +1,17 @@
 -- The texts of reports. Each line ends with a line feed.
-use Rattle.std.specs.Prelude.{◌≡◌, ℕ, ◌==◌, if◌then◌else◌, List, [], ◌∷◌, ◌++◌, length, flat_map, decimal, codes, slice_get, unwrap_or}
+use Rattle.std.specs.Prelude.{◌≡◌, ◌<◌, ℕ, ◌==◌, if◌then◌else◌, List, [], ◌∷◌, ◌++◌, length, flat_map, decimal, codes, slice_get, unwrap_or}
 use Rattle.std.specs.List.Sorted.{IsStrictlyIncreasing}
 use Rattle.rank_tables.specs.Instance.{Lists, pair_count, pair_at, one_sided}
 use Rattle.rank_tables.specs.WellFormed.{names_of_residents, names_of_hospitals}
 use Rattle.rank_tables.specs.Stability.{Best}
+use Rattle.rank_tables.specs.Tables.{IsPairNo}
 use Rattle.hrt_reader.specs.Refusal.{Refusal}
+use Rattle.stability_audit.specs.declared.verdict.Verdict.{Verdict as Audit}
+use Rattle.stability_audit.specs.declared.verdict.Verdict.TheVariants.{Stable, ResidentTwice, OverCapacity, Blocked}
+use Rattle.stability_audit.specs.Verdict.{verdict_of as audit_of}
 use Rattle.hrt_cli.specs.declared.limit.Limit.{Limit}
 use Rattle.hrt_cli.specs.Limits.{most, name_of}
-use Rattle.hrt_cli.specs.Verdicts.{Verdict, misused, rejected, refused, exceeded, solved}
+use Rattle.hrt_cli.specs.Verdicts.{Verdict, misused, rejected, refused, exceeded, pairs_refused, solved, audited}
 
 abbrev pub line : List ℕ → List ℕ
 line text = text ++ 10 ∷ []
@@ -19,9 +23,13 @@ count_line word n = word ++ 32 ∷ (decimal n ++ 10 ∷ [])
 abbrev pub name_at : List (List ℕ) → ℕ → List ℕ
 name_at names k = unwrap_or (slice_get names k) []
 
+-- the names of a pair, to the end of the line
+abbrev pub names_line : Lists → ℕ → List ℕ
+names_line lists p =
+    name_at (names_of_residents lists) (pair_at lists p).resident ++ 32 ∷ line (name_at (names_of_hospitals lists) (pair_at lists p).hospital)
+
 abbrev pub pair_line : Lists → ℕ → List ℕ
-pair_line lists p =
-    codes "pair " ++ (name_at (names_of_residents lists) (pair_at lists p).resident ++ 32 ∷ (name_at (names_of_hospitals lists) (pair_at lists p).hospital ++ 10 ∷ []))
+pair_line lists p = codes "pair " ++ names_line lists p
 
 abbrev pub instance_lines : Lists → List ℕ
 instance_lines lists =
@@ -32,6 +40,11 @@ instance_lines lists =
 abbrev pub solve_report : Lists → List ℕ → List ℕ
 solve_report lists m =
     instance_lines lists ++ flat_map (pair_line lists) m ++ count_line (codes "size") (length m) ++ line (codes "best")
+
+-- the word for a kind of refusal of pairs
+abbrev pub pairs_kind_word : ℕ → List ℕ
+pairs_kind_word n =
+    if n == 1 then codes "BadLine" else if n == 2 then codes "UnknownName" else if n == 3 then codes "NotAcceptable" else codes "RepeatedPair"
 
 -- the word for a kind of refusal of an instance
 abbrev pub kind_word : ℕ → List ℕ
@@ -47,6 +60,20 @@ place_line number what = decimal number ++ 32 ∷ line what
 abbrev pub limit_line : Limit → List ℕ
 limit_line limit = codes "limit " ++ count_line (name_of limit) (most limit)
 
+-- the report on what an audit says of pairs
+abbrev pub audit_report : Lists → List ℕ → Audit → List ℕ
+audit_report lists m Stable = line (codes "stable") ++ count_line (codes "size") (length m)
+audit_report lists m (ResidentTwice r) = codes "resident-twice " ++ line (name_at (names_of_residents lists) r)
+audit_report lists m (OverCapacity h) = codes "over-capacity " ++ line (name_at (names_of_hospitals lists) h)
+audit_report lists m (Blocked p) = codes "blocked " ++ names_line lists p.0
+
+-- whom an audit names is declared
+abbrev pub NamesDeclared : Lists → Audit → Type 0
+NamesDeclared lists Stable = Unit {0}
+NamesDeclared lists (ResidentTwice r) = r < length lists.residents
+NamesDeclared lists (OverCapacity h) = h < length lists.hospitals
+NamesDeclared lists (Blocked p) = IsPairNo lists p.0
+
 -- the text is a report for the verdict: of a solved instance it lists some best pairs by rising number
 pub record IsSolveReport (lists : Lists) (text : List ℕ) : Type 0 where
   pub pairs : List ℕ
@@ -58,4 +85,6 @@ abbrev pub IsReport : Verdict → List ℕ → Type 0
 IsReport misused text = text ≡ line (codes "words not understood")
 IsReport (rejected (refused r)) text = text ≡ codes "instance refused line " ++ place_line r.line (kind_word r.kind)
 IsReport (rejected (exceeded limit)) text = text ≡ limit_line limit
+IsReport (rejected (pairs_refused r)) text = text ≡ codes "pairs refused line " ++ place_line r.line (pairs_kind_word r.kind)
 IsReport (solved lists) text = IsSolveReport lists text
+IsReport (audited lists pairs) text = text ≡ audit_report lists pairs (audit_of lists pairs)

@@ -2,11 +2,12 @@
 use Rattle.std.specs.Prelude.{Bool, false, not, ◌&&◌, ◌==◌, ℕ, List, [], ◌∷◌, Option, Some, None, if◌then◌else◌, map, option_map, codes, bytes_eq, String, string_bytes}
 use Rattle.std.specs.Global.{Global}
 use Rattle.hrt_cli.specs.declared.words.Command.{Command}
-use Rattle.hrt_cli.specs.declared.words.Command.TheVariants.{Solve}
+use Rattle.hrt_cli.specs.declared.words.Command.TheVariants.{Solve, Audit}
 
 -- a command with the names of its files
 pub data Request : Type 0 where
   solve : List ℕ → Request  -- the instance
+  audit : List ℕ → List ℕ → Request  -- the instance and the pairs
 
 -- a name of a file isn't empty and doesn't begin with `-`
 abbrev pub is_file_name : List ℕ → Bool
@@ -17,11 +18,26 @@ abbrev pub one_file : List (List ℕ) → Option (List ℕ)
 one_file (file ∷ []) = if is_file_name file then Some file else None
 one_file _ = None
 
+-- two names
+pub record TwoFiles : Type 0 where
+  pub first : List ℕ
+  pub second : List ℕ
+
+abbrev pub two : List ℕ → List ℕ → TwoFiles
+two first second = record { first = first; second = second }
+
+-- two names that differ
+abbrev pub two_files : List (List ℕ) → Option TwoFiles
+two_files (first ∷ second ∷ []) =
+    if is_file_name first && is_file_name second && not (bytes_eq first second) then Some (two first second) else None
+two_files _ = None
+
 -- the words are a command and exactly its files
 abbrev pub request_of : List (List ℕ) → Option Request
 request_of [] = None
 request_of (word ∷ files) =
     if bytes_eq word (codes "solve") then option_map solve (one_file files)
+    else if bytes_eq word (codes "audit") then option_map (λ f. audit f.first f.second) (two_files files)
     else None
 
 -- the bytes of words
@@ -31,3 +47,4 @@ texts_of words = map string_bytes words
 -- what the code's command asks for
 abbrev pub asked_by : Command → Request
 asked_by (Solve instance) = solve instance.now
+asked_by (Audit instance pairs) = audit instance.now pairs.now

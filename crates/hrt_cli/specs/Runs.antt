@@ -7,7 +7,7 @@ use Rattle.hrt_base.specs.declared.host.Begun.TheVariants.{Idle, Writing}
 use Rattle.hrt_base.specs.Calls.{Rose}
 use Rattle.hrt_base.specs.World.{World, Content, port_no, put, appended, sealed}
 use Rattle.hrt_cli.specs.declared.status.Status.{Status}
-use Rattle.hrt_cli.specs.declared.status.Status.TheVariants.{Done, Misused, InstanceRefused, ReadFault, WriteFault, NoMemory, LimitExceeded}
+use Rattle.hrt_cli.specs.declared.status.Status.TheVariants.{Done, Misused, InstanceRefused, ReadFault, WriteFault, NoMemory, LimitExceeded, AuditNo, PairsRefused}
 use Rattle.rank_tables.specs.Instance.{Lists}
 use Rattle.rank_tables.specs.Stability.{Best}
 use Rattle.hrt_reader.specs.Refusal.{Spells}
@@ -81,6 +81,8 @@ EndsAs told request Done old new = Reported told request Done old new
 EndsAs told request Misused old new = Reported told request Misused old new
 EndsAs told request InstanceRefused old new = Reported told request InstanceRefused old new
 EndsAs told request LimitExceeded old new = Reported told request LimitExceeded old new
+EndsAs told request AuditNo old new = Reported told request AuditNo old new
+EndsAs told request PairsRefused old new = Reported told request PairsRefused old new
 
 -- ---- what a run promises, by the code that it answers
 
@@ -89,7 +91,7 @@ abbrev pub has_report : ℕ → Bool
 has_report n = not (n == 4 || n == 5 || n == 6)
 
 abbrev pub is_code : ℕ → Bool
-is_code n = n == 0 || n == 2 || n == 3 || n == 4 || n == 5 || n == 6 || n == 7
+is_code n = n == 0 || n == 2 || n == 3 || n == 4 || n == 5 || n == 6 || n == 7 || n == 9 || n == 12
 
 -- the report was sent of what the words and the files come to, and the code is that of this verdict
 pub record IsDecided (request : Option Request) (n : ℕ) (old new : World) : Type 0 where

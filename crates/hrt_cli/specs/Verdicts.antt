@@ -1,24 +1,30 @@
 -- What a run comes to, as far as the words and the files decide it.
 use Rattle.std.specs.Prelude.{◌≡◌, ℕ, ◌==◌, nat_lt, if◌then◌else◌, List, length, Option, Some, None, Result, Ok, Err, option_map}
 use Rattle.rank_tables.specs.Instance.{Lists, pair_count}
+use Rattle.rank_tables.specs.Stability.{is_weakly_stable}
 use Rattle.hrt_text.specs.Text.{rows}
+use Rattle.hrt_reader.specs.PairsText.{pairs_of_rows, pairs_refusal}
 use Rattle.hrt_reader.specs.Refusal.{Refusal, refusal, lists_of_rows}
+use Rattle.stability_audit.specs.declared.verdict.Verdict.{Verdict as Audit}
+use Rattle.stability_audit.specs.declared.verdict.Verdict.TheVariants.{Stable, ResidentTwice, OverCapacity, Blocked}
 use Rattle.hrt_cli.specs.declared.limit.Limit.{Limit}
 use Rattle.hrt_cli.specs.declared.limit.Limit.TheVariants.{Residents, Hospitals, Pairs, TriedPairs, InstanceBytes, PairsBytes}
 use Rattle.hrt_cli.specs.declared.status.Status.{Status}
-use Rattle.hrt_cli.specs.declared.status.Status.TheVariants.{Done, Misused, InstanceRefused, LimitExceeded}
+use Rattle.hrt_cli.specs.declared.status.Status.TheVariants.{Done, Misused, InstanceRefused, LimitExceeded, AuditNo, PairsRefused}
 use Rattle.hrt_cli.specs.Limits.{most}
-use Rattle.hrt_cli.specs.Requests.{Request, solve}
+use Rattle.hrt_cli.specs.Requests.{Request, solve, audit}
 
 -- why a file isn't taken
 pub data Rejection : Type 0 where
   refused : Refusal → Rejection  -- it spells no instance, with the line and the kind
   exceeded : Limit → Rejection  -- there is too much of something
+  pairs_refused : Refusal → Rejection  -- it spells no pairs of the instance
 
 pub data Verdict : Type 0 where
   misused : Verdict  -- the words ask for nothing
   rejected : Rejection → Verdict  -- a file isn't taken
   solved : Lists → Verdict  -- the pairs of a best matching are due
+  audited : Lists → List ℕ → Verdict  -- whether these pairs are weakly stable is due
 
 -- the files by their names
 abbrev pub Files : Type 0
@@ -49,13 +55,41 @@ due (Ok lists) f = f lists
 abbrev pub solve_verdict : List ℕ → Verdict
 solve_verdict bytes = due (within TriedPairs (lists_in bytes)) solved
 
+abbrev pub unless_pairs_refused : Option Refusal → Lists → List ℕ → Verdict
+unless_pairs_refused None lists pairs = audited lists pairs
+unless_pairs_refused (Some r) lists pairs = rejected (pairs_refused r)
+
+abbrev pub audit_verdict : Lists → List ℕ → Verdict
+audit_verdict lists bytes =
+    if nat_lt (most PairsBytes) (length bytes) then rejected (exceeded PairsBytes)
+    else unless_pairs_refused (pairs_refusal lists (rows bytes)) lists (pairs_of_rows lists (rows bytes))
+
+-- the pairs are looked at only where the instance is taken
+abbrev pub on_lists : Result Lists Rejection → Option (List ℕ) → Option Verdict
+on_lists (Err rejection) pairs = Some (rejected rejection)
+on_lists (Ok lists) pairs = option_map (audit_verdict lists) pairs
+
+abbrev pub on_file : Option (List ℕ) → Option (List ℕ) → Option Verdict
+on_file None pairs = None
+on_file (Some bytes) pairs = on_lists (within Pairs (lists_in bytes)) pairs
+
 -- None where a file that is read is absent
 abbrev pub verdict_of : Option Request → Files → Option Verdict
 verdict_of None files = Some misused
 verdict_of (Some (solve instance)) files = option_map solve_verdict (files instance)
+verdict_of (Some (audit instance pairs)) files = on_file (files instance) (files pairs)
 
 abbrev pub status_of : Verdict → Status
 status_of (solved lists) = Done
+status_of (audited lists pairs) = if is_weakly_stable lists pairs then Done else AuditNo
 status_of misused = Misused
 status_of (rejected (refused r)) = InstanceRefused
 status_of (rejected (exceeded limit)) = LimitExceeded
+status_of (rejected (pairs_refused r)) = PairsRefused
+
+-- the status for what an audit says
+abbrev pub audit_status : Audit → Status
+audit_status Stable = Done
+audit_status (ResidentTwice r) = AuditNo
+audit_status (OverCapacity h) = AuditNo
+audit_status (Blocked p) = AuditNo

@@ -1,12 +1,13 @@
 // What a run answers.
 ghost use Rattle.std.specs.Prelude.{◌≡◌, ◌++◌, codes, IfOk, IfErr};
 ghost use Rattle.hrt_reader.specs.Kinds.{number};
+ghost use Rattle.hrt_reader.specs.PairsAnswer.{pairs_number};
 ghost use Rattle.hrt_cli.specs.Answers.{EndsFor, Explains};
-ghost use Rattle.hrt_cli.specs.Reports.{kind_word, limit_line, place_line};
+ghost use Rattle.hrt_cli.specs.Reports.{kind_word, pairs_kind_word, limit_line, place_line};
 
 use crate::{Ended, Limit, Report, Status, Stop};
 use hrt_base::NoMemory;
-use hrt_reader::ReadKind;
+use hrt_reader::{PairsKind, ReadKind};
 use std::alloc::Global;
 
 /// A status with its report.
@@ -30,6 +31,10 @@ pub fn explain(alloc: Global, stop: Stop) -> Result<Answer, Ended>
             status: Status::LimitExceeded,
             report: limit_report(alloc, limit)?,
         }),
+        Stop::PairsRefused { kind, line } => Ok(Answer {
+            status: Status::PairsRefused,
+            report: pairs_refusal_report(alloc, kind, line)?,
+        }),
         Stop::ReadFault => Err(Ended::ReadFault),
         Stop::NoMemory => Err(Ended::NoMemory),
     }
@@ -41,6 +46,15 @@ fn refusal_report(alloc: Global, kind: ReadKind, line: u32) -> Result<Report, No
     let mut report = Report::new(alloc);
     report.push("instance refused line ".as_bytes())?;
     report.push_place(line, kind_name(kind))?;
+    Ok(report)
+}
+
+fn pairs_refusal_report(alloc: Global, kind: PairsKind, line: u32) -> Result<Report, NoMemory>
+    ensures { IfOk result (λ report. report ≡ codes "pairs refused line " ++ place_line line (pairs_kind_word (pairs_number kind))) }
+{
+    let mut report = Report::new(alloc);
+    report.push("pairs refused line ".as_bytes())?;
+    report.push_place(line, pairs_kind_name(kind))?;
     Ok(report)
 }
 
@@ -68,5 +82,17 @@ fn kind_name(kind: ReadKind) -> &'static str
         ReadKind::BadTie => "BadTie",
         ReadKind::NoEnd => "NoEnd",
         ReadKind::AfterEnd => "AfterEnd",
+    }
+}
+
+// The word for a kind of refusal of pairs.
+fn pairs_kind_name(kind: PairsKind) -> &'static str
+    ensures { result.now ≡ pairs_kind_word (pairs_number kind) }
+{
+    match kind {
+        PairsKind::BadLine => "BadLine",
+        PairsKind::UnknownName => "UnknownName",
+        PairsKind::NotAcceptable => "NotAcceptable",
+        PairsKind::RepeatedPair => "RepeatedPair",
     }
 }

@@ -1,15 +1,17 @@
 // Instances from files.
-ghost use Rattle.std.specs.Prelude.{◌≡◌, ◌≤◌, length, IfOk, IfErr, Ok};
+ghost use Rattle.std.specs.Prelude.{◌≡◌, ◌≤◌, length, All, IfOk, IfErr, IsTrue, Ok};
 ghost use Rattle.rank_tables.specs.Instance.{pair_count};
+ghost use Rattle.rank_tables.specs.Numbers.{is_distinct};
+ghost use Rattle.rank_tables.specs.Tables.{numbers_of, IsPairNo};
 ghost use Rattle.rank_tables.specs.WellFormed.{most_pairs};
 ghost use Rattle.hrt_cli.specs.Limits.{most};
-ghost use Rattle.hrt_cli.specs.Loading.{IsLoaded, StopsLoading, StopsText};
-ghost use Rattle.hrt_cli.specs.Verdicts.{lists_in, within};
+ghost use Rattle.hrt_cli.specs.Loading.{ArePairsLoaded, IsLoaded, StopsLoading, StopsLoadingPairs, StopsPairsText, StopsText};
+ghost use Rattle.hrt_cli.specs.Verdicts.{audit_verdict, audited, lists_in, within};
 
 use crate::input::read_file;
 use crate::{Limit, Stop};
-use hrt_base::{Begun, Host, Port, ReadEnd};
-use hrt_reader::{LimitKind, ReadRefusal, read_instance};
+use hrt_base::{Begun, Host, PairNo, Port, ReadEnd};
+use hrt_reader::{LimitKind, PairsRefusal, ReadRefusal, read_instance, read_pairs};
 use rank_tables::Instance;
 use std::alloc::Global;
 
@@ -60,5 +62,47 @@ fn instance_in(alloc: Global, bytes: &[u8], limit: Limit) -> Result<Instance, St
         Err(ReadRefusal::Limit(LimitKind::Hospitals)) => Err(Stop::Exceeded(Limit::Hospitals)),
         Err(ReadRefusal::Limit(LimitKind::Pairs)) => Err(Stop::Exceeded(limit)),
         Err(ReadRefusal::NoMemory) => Err(Stop::NoMemory),
+    }
+}
+
+/// The pairs of the instance in a file, as they stand there.
+pub fn load_pairs<H: Host>(
+    alloc: Global,
+    host: &mut H,
+    name: &str,
+    inst: &Instance,
+) -> Result<Vec<PairNo>, Stop>
+    requires { (H.world host.old).begun Port.Pairs ≡ Begun.Idle }
+    ensures loaded { IfOk result (λ pairs. ArePairsLoaded H.told name.now inst.now (numbers_of pairs.items) (H.world host.old) (H.world host.new)) }
+    ensures in_range { IfOk result (λ pairs. All (λ p. IsPairNo inst.now p.0) pairs.items) }
+    ensures distinct { IfOk result (λ pairs. IsTrue (is_distinct (numbers_of pairs.items))) }
+    ensures stopped { IfErr result (λ stop. StopsLoadingPairs H.told name.now inst.now stop (H.world host.old) (H.world host.new)) }
+{
+    match read_file(
+        alloc,
+        host,
+        Port::Pairs,
+        name,
+        Limit::PairsBytes.most() as usize,
+    ) {
+        Ok(bytes) => pairs_in(alloc, &bytes, inst),
+        Err(ReadEnd::TooLong) => Err(Stop::Exceeded(Limit::PairsBytes)),
+        Err(ReadEnd::Failed) => Err(Stop::ReadFault),
+        Err(ReadEnd::NoMemory) => Err(Stop::NoMemory),
+    }
+}
+
+// The pairs that a text spells.
+fn pairs_in(alloc: Global, bytes: &[u8], inst: &Instance) -> Result<Vec<PairNo>, Stop>
+    requires { length bytes.now ≤ 67108864 }
+    ensures pairs { IfOk result (λ pairs. audit_verdict inst.now bytes.now ≡ audited inst.now (numbers_of pairs.items)) }
+    ensures in_range { IfOk result (λ pairs. All (λ p. IsPairNo inst.now p.0) pairs.items) }
+    ensures distinct { IfOk result (λ pairs. IsTrue (is_distinct (numbers_of pairs.items))) }
+    ensures stopped { IfErr result (StopsPairsText (audit_verdict inst.now bytes.now)) }
+{
+    match read_pairs(alloc, bytes, inst) {
+        Ok(pairs) => Ok(pairs),
+        Err(PairsRefusal::Bad { kind, line }) => Err(Stop::PairsRefused { kind, line }),
+        Err(PairsRefusal::NoMemory) => Err(Stop::NoMemory),
     }
 }

@@ -6,13 +6,15 @@ ghost use Rattle.hrt_cli.specs.Answers.{GivesUp, IsAnswered};
 ghost use Rattle.hrt_cli.specs.Requests.{asked_by, request_of, solve, texts_of};
 ghost use Rattle.hrt_cli.specs.Runs.{EndsAs, IsCutShort, IsDecided, IsDue, IsSentWhole, KeepsFiles, PrintsBest, SendsNothing, has_report, is_code};
 
+use crate::auditing::audit;
 use crate::solve::solve;
 use crate::{Answer, Command, Ended, Status, command_of};
 use hrt_base::{Begun, Failed, Host, Port, write_all};
 use std::alloc::Global;
 
 /// Does what the words ask for, and answers the code with which the program exits: 0 done, 2 words not understood,
-/// 3 instance refused, 4 a read failed, 5 a write failed, 6 out of memory, 7 a limit passed.
+/// 3 instance refused, 4 a read failed, 5 a write failed, 6 out of memory, 7 a limit passed, 9 not
+/// weakly stable, 12 pairs refused.
 #[tactic(auto, using(crate::proofs::Codes::best, crate::proofs::Codes::misused_code, crate::proofs::Codes::understood_code, crate::proofs::Codes::decided, crate::proofs::Codes::due, crate::proofs::Codes::read_fault, crate::proofs::Codes::after_read_fault, crate::proofs::Codes::write_fault, crate::proofs::Codes::after_write_fault, crate::proofs::Codes::after_no_memory, crate::proofs::Codes::closed, crate::proofs::Codes::files_kept, crate::proofs::Codes::known))]
 pub fn run<H: Host>(alloc: Global, words: &[String], host: &mut H) -> u8
     requires { AtStart H.told (H.world host.old) }
@@ -63,6 +65,7 @@ fn answer_to<H: Host>(alloc: Global, host: &mut H, command: Command) -> Result<A
 {
     match command {
         Command::Solve(instance) => solve(alloc, host, instance),
+        Command::Audit(instance, pairs) => audit(alloc, host, instance, pairs),
     }
 }
 

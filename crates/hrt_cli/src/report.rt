@@ -1,11 +1,11 @@
 // The text of a report.
-ghost use Rattle.std.specs.Prelude.{◌≡◌, ◌++◌, [], OnOk};
-ghost use Rattle.hrt_cli.specs.Reports.{count_line, instance_lines, line, pair_line, place_line};
+ghost use Rattle.std.specs.Prelude.{◌≡◌, ◌++◌, [], codes, OnOk};
+ghost use Rattle.hrt_cli.specs.Reports.{count_line, instance_lines, line, names_line, pair_line, place_line};
 ghost use Rattle.rank_tables.specs.Tables.{IsPairNo};
 
 use hrt_base::{NoMemory, PairNo};
 use itoa::Buffer;
-use rank_tables::Instance;
+use rank_tables::{Instance, Name};
 use std::alloc::Global;
 use std::marker::Model;
 
@@ -83,6 +83,14 @@ impl Report {
         ensures { OnOk result (self.new ≡ self.old ++ pair_line inst.now pair.0) }
     {
         self.push(b"pair ")?;
+        self.push_names(inst, pair)
+    }
+
+    /// Adds the names of a pair, to the end of the line.
+    pub fn push_names(&mut self, inst: &Instance, pair: PairNo) -> Result<(), NoMemory>
+        requires { IsPairNo inst.now pair.0 }
+        ensures { OnOk result (self.new ≡ self.old ++ names_line inst.now pair.0) }
+    {
         self.push(inst.resident_name(inst.resident_of(pair)).bytes())?;
         self.push(b" ")?;
         self.push(inst.hospital_name(inst.hospital_of(pair)).bytes())?;
@@ -97,5 +105,31 @@ impl Report {
         self.push_count("hospitals", inst.hospitals())?;
         self.push_count("pairs", inst.pairs())?;
         self.push_count("one-sided", inst.one_sided())
+    }
+
+    /// Adds the lines for a weakly stable matching of this size.
+    pub fn push_stable(&mut self, size: u32) -> Result<(), NoMemory>
+        ensures { OnOk result (self.new ≡ self.old ++ (line (codes "stable") ++ count_line (codes "size") size)) }
+    {
+        self.push_line("stable")?;
+        self.push_count("size", size)
+    }
+
+    /// Adds a line that ends in a name.
+    pub fn push_name(&mut self, before: &str, name: &Name) -> Result<(), NoMemory>
+        ensures { OnOk result (self.new ≡ self.old ++ (before.now ++ line name.now)) }
+    {
+        self.push(before.as_bytes())?;
+        self.push(name.bytes())?;
+        self.push(b"\n")
+    }
+
+    /// Adds the line for a pair that blocks.
+    pub fn push_blocked(&mut self, inst: &Instance, pair: PairNo) -> Result<(), NoMemory>
+        requires { IsPairNo inst.now pair.0 }
+        ensures { OnOk result (self.new ≡ self.old ++ (codes "blocked " ++ names_line inst.now pair.0)) }
+    {
+        self.push("blocked ".as_bytes())?;
+        self.push_names(inst, pair)
     }
 }

@@ -12,6 +12,8 @@ pub enum Status {
     WriteFault,
     NoMemory,
     LimitExceeded,
+    AuditNo,
+    PairsRefused,
 }
 
 impl Status {
@@ -27,6 +29,8 @@ impl Status {
             Status::WriteFault => 5,
             Status::NoMemory => 6,
             Status::LimitExceeded => 7,
+            Status::AuditNo => 9,
+            Status::PairsRefused => 12,
         }
     }
 }

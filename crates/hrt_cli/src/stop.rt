@@ -5,13 +5,14 @@ ghost use Rattle.hrt_cli.specs.declared.stop.Ended.TheVariants.{NoMemory as ende
 
 use crate::Limit;
 use hrt_base::NoMemory;
-use hrt_reader::ReadKind;
+use hrt_reader::{PairsKind, ReadKind};
 
-/// Why no instance was had. The first two are told to the user.
+/// Why no instance or no pairs were had. All but the last two are told to the user.
 #[derive(Clone, Copy, Debug, PartialEq, Eq)]
 pub enum Stop {
     Refused { kind: ReadKind, line: u32 },
     Exceeded(Limit),
+    PairsRefused { kind: PairsKind, line: u32 },
     ReadFault,
     NoMemory,
 }

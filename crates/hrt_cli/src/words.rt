@@ -1,12 +1,14 @@
 // The words after the program's name.
 ghost use Rattle.std.specs.Prelude.{◌≡◌, option_map, map, string_bytes};
-ghost use Rattle.hrt_cli.specs.Requests.{asked_by, is_file_name, request_of, one_file, texts_of};
+ghost use Rattle.hrt_cli.specs.Requests.{asked_by, is_file_name, request_of, one_file, texts_of, two, two_files};
 
 /// What is to be done, with the names of its files.
 #[derive(Clone, Copy)]
 pub enum Command<'a> {
     /// The instance.
     Solve(&'a str),
+    /// The instance and the pairs.
+    Audit(&'a str, &'a str),
 }
 
 /// The command that the words spell, if they spell one.
@@ -18,6 +20,10 @@ pub fn command_of<'a>(words: &'a [String]) -> Option<Command<'a>>
     };
     match word.as_str() {
         "solve" => Some(Command::Solve(one_file(files)?)),
+        "audit" => {
+            let (instance, pairs) = two_files(files)?;
+            Some(Command::Audit(instance, pairs))
+        }
         _ => None,
     }
 }
@@ -34,6 +40,22 @@ fn one_file<'a>(files: &'a [String]) -> Option<&'a str>
 {
     match files {
         [file] if is_file_name(file.as_str()) => Some(file.as_str()),
+        _ => None,
+    }
+}
+
+// Two names that differ.
+fn two_files<'a>(files: &'a [String]) -> Option<(&'a str, &'a str)>
+    ensures { option_map (λ f. two f.0.now f.1.now) result ≡ two_files (texts_of files.now) }
+{
+    match files {
+        [first, second]
+            if is_file_name(first.as_str())
+                && is_file_name(second.as_str())
+                && first.as_str() != second.as_str() =>
+        {
+            Some((first.as_str(), second.as_str()))
+        }
         _ => None,
     }
 }

@@ -6,6 +6,7 @@ pub mod LineSteps
 pub mod NameKeys
 pub mod Numbers
 pub mod PairKinds
+pub mod PairsBack
 pub mod Places
 pub mod RoundTrip
 pub mod SpelledItems

@@ -54,7 +54,7 @@ names_distinct names (x ∷ g) h e u =
     (names_distinct names g h t.1 v.1)
 
 -- each name stands among the names
-name_among : (names : List (List ℕ)) (x : ℕ) → x < length names → is_among (name_at names x) names ≡ true
+pub name_among : (names : List (List ℕ)) (x : ℕ) → x < length names → is_among (name_at names x) names ≡ true
 name_among [] x lt = absurd (omega arith)
 name_among (n ∷ names) zero lt = rw (bytes_eq-same n) refl
 name_among (n ∷ names) (suc x) lt = or_right (bytes_eq (name_at names x) n) (is_among (name_at names x) names) (name_among names x (omega arith))
@@ -65,7 +65,7 @@ names_known names (x ∷ g) e =
     let t = and_parts (below names x) (list_all (below names) g) e in
     and_from (is_among (name_at names x) names) (list_all (λ w. is_among w names) (map (name_at names) g)) (name_among names x (ltb-true _ _ t.0)) (names_known names g t.1)
 
-name_is : (p : List ℕ → Bool) (names : List (List ℕ)) (x : ℕ) → list_all p names ≡ true → x < length names → p (name_at names x) ≡ true
+pub name_is : (p : List ℕ → Bool) (names : List (List ℕ)) (x : ℕ) → list_all p names ≡ true → x < length names → p (name_at names x) ≡ true
 name_is p [] x h lt = absurd (omega arith)
 name_is p (n ∷ names) zero h lt = (and_parts (p n) (list_all p names) h).0
 name_is p (n ∷ names) (suc x) h lt = name_is p names x (and_parts (p n) (list_all p names) h).1 (omega arith)

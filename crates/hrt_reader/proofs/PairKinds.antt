@@ -70,7 +70,7 @@ pairs_more lists all i row after e =
 
 -- ---- pairs, one more
 
-eqb-turned : (x y : ℕ) → eqb x y ≡ eqb y x
+pub eqb-turned : (x y : ℕ) → eqb x y ≡ eqb y x
 eqb-turned x y = same_from_decides (eqb x y) (eqb y x) ((λ (e : eqb x y ≡ true). sym ((Decides-eqb x y).0 e)), (λ (e : y ≡ x). (Decides-eqb x y).1 (sym e))) (Decides-eqb y x)
 
 pub is_in-turned : (x : ℕ) (ys : List ℕ) → list_any (λ y. eqb x y) ys ≡ is_in x ys

@@ -46,7 +46,7 @@ lines_back (l ∷ ls) h =
     ∙ ap (λ (x : List ℕ). x ∷ lines (flat_map ended_line ls)) (plain_kept l h.0)
     ∙ ap (λ (x : List (List ℕ)). l ∷ x) (lines_back ls h.1)
 
-plain_append : (a b : List ℕ) → IsPlain a → IsPlain b → IsPlain (a ++ b)
+pub plain_append : (a b : List ℕ) → IsPlain a → IsPlain b → IsPlain (a ++ b)
 plain_append a b h k = list_all-append is_plain a b ∙ and_from (list_all is_plain a) (list_all is_plain b) h k
 
 plain_joined : (ns : List (List ℕ)) → AllByRecursion IsWord ns → IsPlain (join_with_byte 32 ns)

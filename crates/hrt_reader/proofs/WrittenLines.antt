@@ -142,7 +142,7 @@ hospital_line lists h lt =
 
 -- ---- the whole
 
-ended_by_feeds : {A : Type 0} (f : A → List ℕ) (xs : List A) → flat_map (λ line. line ++ 10 ∷ []) (map f xs) ≡ flat_map (λ x. f x ++ 10 ∷ []) xs
+pub ended_by_feeds : {A : Type 0} (f : A → List ℕ) (xs : List A) → flat_map (λ line. line ++ 10 ∷ []) (map f xs) ≡ flat_map (λ x. f x ++ 10 ∷ []) xs
 ended_by_feeds f [] = refl
 ended_by_feeds f (x ∷ xs) = ap (λ (l : List ℕ). (f x ++ 10 ∷ []) ++ l) (ended_by_feeds f xs)
 

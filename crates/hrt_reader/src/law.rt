@@ -1,12 +1,25 @@
-//! What holds of the canonical spelling.
+//! What holds of the canonical spellings.
 
-ghost use Rattle.std.specs.Prelude.{◌≡◌, List, ℕ};
+ghost use Rattle.std.specs.Prelude.{◌≡◌, All, IsTrue, List, ℕ};
 ghost use Rattle.rank_tables.specs.Instance.{Lists};
-ghost use Rattle.hrt_reader.specs.Refusal.{Spells};
+ghost use Rattle.rank_tables.specs.Numbers.{is_distinct};
+ghost use Rattle.rank_tables.specs.Tables.{IsPairNo};
 ghost use Rattle.rank_tables.specs.WellFormed.{IsWellFormed};
+ghost use Rattle.hrt_reader.specs.PairsText.{SpellsPairs, pairs_spelling};
+ghost use Rattle.hrt_reader.specs.Refusal.{Spells};
 ghost use Rattle.hrt_reader.specs.Spelling.{spelling};
 
 /// The canonical spelling of well-formed lists has no refusal, and spells just these lists.
 pub fn spelling_is_read_back()
     ensures { (lists : Lists) → IsWellFormed lists → Spells (spelling lists) lists }
+{}
+
+/// Well-formed lists with one canonical spelling are equal.
+pub fn spelling_is_one_to_one()
+    ensures { (lists other : Lists) → IsWellFormed lists → IsWellFormed other → spelling lists ≡ spelling other → lists ≡ other }
+{}
+
+/// The canonical spelling of distinct pairs has no refusal, and spells just these pairs.
+pub fn pairs_spelling_is_read_back()
+    ensures { (lists : Lists) (pairs : List ℕ) → IsWellFormed lists → All (IsPairNo lists) pairs → IsTrue (is_distinct pairs) → SpellsPairs lists (pairs_spelling lists pairs) pairs }
 {}

@@ -47,7 +47,7 @@ pub returns-in-Some-pair_no-clause-named : goal.returns-in-Some-pair_no-clause-n
 returns-in-Some-pair_no-clause-named c =
     let r = found_number c.args.resident.now (names_of_residents c.args.instance.now) c.in-Some.r (among _ _ _ _ _ c.requires.residents c.number_of.ensures c.in-Some.is) in
     let h = found_number c.args.hospital.now (names_of_hospitals c.args.instance.now) c.in-Some-number_of.h (among _ _ _ _ _ c.requires.hospitals c.number_of-2.ensures c.in-Some-number_of.is) in
-    ap₂ (pair_no c.args.instance.now) (sym r.1) (sym h.1) ∙ sym c.pair_no.ensures ∙ ap (option_map (λ (p : PairNo). p.0)) c.in-Some-pair_no.is
+    ap₂ (pair_no c.args.instance.now) (sym r.1) (sym h.1) ∙ sym c.pair_no.ensures.number ∙ ap (option_map (λ (p : PairNo). p.0)) c.in-Some-pair_no.is
 
 pub returns-in-None-clause-refused : goal.returns-in-None-clause-refused
 returns-in-None-clause-refused c = λ before.
@@ -55,4 +55,4 @@ returns-in-None-clause-refused c = λ before.
     let h = found_number c.args.hospital.now (names_of_hospitals c.args.instance.now) c.in-Some-number_of.h (among _ _ _ _ _ c.requires.hospitals c.number_of-2.ensures c.in-Some-number_of.is) in
     kind_unacceptable c.args.instance.now before c.args.resident.now c.args.hospital.now
     (both_found (is_among c.args.resident.now (names_of_residents c.args.instance.now)) (is_among c.args.hospital.now (names_of_hospitals c.args.instance.now)) r.0 h.0)
-    (ap₂ (pair_no c.args.instance.now) (sym r.1) (sym h.1) ∙ sym c.pair_no.ensures ∙ ap (option_map (λ (p : PairNo). p.0)) c.in-None.is)
+    (ap₂ (pair_no c.args.instance.now) (sym r.1) (sym h.1) ∙ sym c.pair_no.ensures.number ∙ ap (option_map (λ (p : PairNo). p.0)) c.in-None.is)

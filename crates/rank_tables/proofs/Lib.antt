@@ -1,2 +1,5 @@
+mod Below
 mod Cuts
+pub mod PairFacts
+mod TableFacts
 mod Worked

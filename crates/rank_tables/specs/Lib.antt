@@ -4,3 +4,4 @@ pub mod Numbers
 pub mod Instance
 pub mod Stability
 pub mod WellFormed
+pub mod Tables

@@ -138,11 +138,6 @@ holds_where terms at_least r e p = rw (e, holds-normal_form p terms at_least) (�
 
 -- ---- the joined terms rise
 
-net_term-append_rising : (low v : ℕ) (z : ℤ) → low ≤ v → IsRisingFrom low (net_term v z)
-net_term-append_rising low v (pos zero) h = tt
-net_term-append_rising low v (pos (suc a)) h = (h, omega arith, tt)
-net_term-append_rising low v (negsuc a) h = (h, omega arith, tt)
-
 -- rising, and below a bound
 abbrev IsRisingBelow : ℕ → ℕ → List Term → Type 0
 IsRisingBelow low high [] = low ≤ high
@@ -214,3 +209,23 @@ joined_form_is ts at_least =
 -- of a row that the code made
 pub made_normal : (r : PlainRow) (ts : List Term) (at_least : ℤ) → r ≡ joined_form ts at_least → r ≡ normal_form ts at_least
 made_normal r ts at_least e = e ∙ joined_form_is ts at_least
+
+-- ---- terms that are worth the same at every point
+
+parted : (z : ℤ) → pos (or_zero z) ≡ z +ℤ pos (or_zero (neg_ℤ z))
+parted (pos zero) = refl
+parted (pos (suc n)) = omega (arith, ints)
+parted (negsuc n) = omega (arith, ints)
+
+value_is : (p : Point) (ts : List Term) → value_at p ts +ℤ pos (gained (var_bound ts) ts) ≡ on_opposites ts +ℤ pos (true_sum p (joined (var_bound ts) ts))
+value_is p ts = omega (arith, ints, joined_sum p (var_bound ts) ts, by_variables p (var_bound ts) ts (omega arith), value_split p ts)
+
+pub normal_form-same : (ts us : List Term) (at_least : ℤ) → ((p : Point) → value_at p ts ≡ value_at p us) → normal_form ts at_least ≡ normal_form us at_least
+normal_form-same ts us at_least h =
+    let g : ℕ = gained (var_bound ts) ts in
+    let k : ℕ = gained (var_bound us) us in
+    let z : ℤ = (on_opposites ts +ℤ pos k) -ℤ (on_opposites us +ℤ pos g) in
+    let same = determined 0 0 (joined (var_bound ts) ts) (joined (var_bound us) us) (or_zero z) (or_zero (neg_ℤ z)) (joined_rising (var_bound ts) ts) (joined_rising (var_bound us) us)
+    (λ p. omega (arith, ints, value_is p ts, value_is p us, h p, parted z)) in
+    let e : (at_least -ℤ on_opposites ts) +ℤ pos g ≡ (at_least -ℤ on_opposites us) +ℤ pos k = omega (arith, ints, same.1, parted z) in
+    ap₂ (λ (vs : List Term) (d : ℕ). record { terms = vs; degree = d }) same.0 (ap or_zero e)

@@ -8,4 +8,5 @@ pub mod Lasts
 pub mod ByNets
 pub mod Forms
 pub mod Covers
+pub mod Implied
 mod Worked

@@ -87,7 +87,7 @@ term a l = record { coef = a; lit = l }
 SignlessValue : Point → ℤ → Lit → Type 0
 SignlessValue p a l = signed_share p (term a l) +ℤ pos (turned (term a l)) ≡ pos (share p (weighing (unsigned_abs a) (signless_lit (term a l))))
 
-opposite_value : (p : Point) (l : Lit) → is_true_at p (opposite_lit l) ≡ not (is_true_at p l)
+pub opposite_value : (p : Point) (l : Lit) → is_true_at p (opposite_lit l) ≡ not (is_true_at p l)
 opposite_value p l = elim (cases_Bool l.neg) [
   | inl n ↦ elim (cases_Bool (p l.var)) [ inl e ↦ rw (n, e) refl | inr e ↦ rw (n, e) refl ]
   | inr n ↦ rw n refl

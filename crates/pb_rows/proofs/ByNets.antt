@@ -1,14 +1,14 @@
 -- The normal form: it holds exactly where the row as written does, and the code's way to join terms gives the same row.
-use Rattle.std.proofs.Common.{◌≡◌, ◌↔◌, ℕ, zero, suc, ◌+◌, ◌-◌, ◌<◌, ◌≤◌, Bool, true, false, not, List, [], ◌∷◌, ◌++◌, ◌==◌, nat_le, if◌then◌else◌, ℤ, pos, negsuc, ◌+ℤ◌, ◌-ℤ◌, ◌≤ℤ◌, neg_ℤ, int_le, refl, sym, ap, ap₂, ◌∙◌, zero-le, inl, inr, arith}
+use Rattle.std.proofs.Common.{◌≡◌, ℕ, zero, suc, ◌+◌, ◌-◌, ◌<◌, ◌≤◌, Bool, true, false, not, List, [], ◌∷◌, ◌++◌, nat_le, if◌then◌else◌, ℤ, pos, negsuc, ◌+ℤ◌, ◌-ℤ◌, ◌≤ℤ◌, neg_ℤ, int_le, refl, sym, ap, ap₂, ◌∙◌, zero-le, inl, inr, arith}
 use Rattle.std.proofs.lemmas.Int.{ints}
-use Rattle.std.proofs.lemmas.Bool.{le-leb, cases_Bool, cases_eq, cases_lt, eq-eqb, ne_eqb}
+use Rattle.std.proofs.lemmas.Bool.{le-leb, cases_eq, cases_lt, eq-eqb, ne_eqb}
 use Rattle.hrt_base.specs.declared.literal.Term.{Term}
 use Rattle.pb_rows.specs.Terms.{IsPositive, IsRisingFrom, PlainRow, is_over}
 use Rattle.pb_rows.specs.Points.{Point, true_sum, value_at}
 use Rattle.pb_rows.specs.Normal.{gained, joined, negative_part, net, net_term, normal_form, on_opposites, or_zero, var_bound}
 use Rattle.pb_rows.specs.Rows.{HoldsWhere, holds}
 use Rattle.pb_rows.specs.Joined.{joined_form, lost_all, put_all, signless_all, turned, turned_sum}
-use Rattle.pb_rows.proofs.Order.{determined, put_all_rising, rising_down}
+use Rattle.pb_rows.proofs.Order.{determined, put_all_rising}
 use Rattle.pb_rows.proofs.Signs.{signless_from, signless_values}
 use Rattle.pb_rows.proofs.Values.{put_all_value, true_sum-append}
 

@@ -4,20 +4,19 @@ use mir.Val.{SFits, of_z, to_z}
 use Rattle.std.proofs.Common.{◌≡◌, ◌∙◌, ◌≤◌, ◌<◌, ◌+◌, inl, inr, ℕ, zero, suc, ℤ, pos, negsuc, ◌+ℤ◌, ◌≤ℤ◌, not, List, [], ◌∷◌, ◌++◌, refl, ap, sym, arith, take, length, get_or, add-one, append_assoc}
 use Rattle.std.specs.Int.RustNames.{unsigned_abs}
 use Rattle.std.specs.List.{sum_by}
-use Rattle.std.proofs.lemmas.Bool.{cases_Bool, le-leb, leb-true}
+use Rattle.std.proofs.lemmas.Bool.{cases_Bool}
 use Rattle.std.proofs.lemmas.Int.{ints, to_z-of_z}
 use Rattle.std.proofs.lemmas.List.{append-nil}
 use Rattle.std.proofs.lemmas.List.Recursion.{is_sum_by}
 use Rattle.std.proofs.lemmas.List.Sums.{sum_by_more, sum_by_more_le, sum_by-take-le}
 use Rattle.hrt_base.specs.declared.literal.Lit.{Lit}
 use Rattle.hrt_base.specs.declared.literal.Term.{Term}
-use Rattle.pb_rows.specs.Terms.{PlainRow, coef_sum, opposite_lit, weighing}
+use Rattle.pb_rows.specs.Terms.{coef_sum, opposite_lit, weighing}
 use Rattle.pb_rows.specs.Points.{Point, is_true_at, share, signed_share, true_sum, value_at}
-use Rattle.pb_rows.specs.Normal.{all_sizes, normal_form, or_zero, sizes}
-use Rattle.pb_rows.specs.Rows.{HoldsWhere}
+use Rattle.pb_rows.specs.Normal.{all_sizes, or_zero, sizes}
 use Rattle.pb_rows.specs.Joined.{AreFrom, is_negative, remains, signless, signless_all, signless_lit, turned, turned_sum}
 use Rattle.pb_rows.proofs.Order.{coef_sum-append, coef_sum-remains}
-use Rattle.pb_rows.proofs.Values.{put_all_value, remains_value, true_sum-append}
+use Rattle.pb_rows.proofs.Values.{remains_value, true_sum-append}
 
 -- ---- step by step
 

@@ -1,5 +1,5 @@
 -- The definitions, computed on rows worked by hand.
-use Rattle.std.proofs.Common.{◌≡◌, ℕ, Bool, true, false, ℤ, pos, negsuc, List, [], ◌∷◌, refl}
+use Rattle.std.proofs.Common.{◌≡◌, ℕ, true, false, pos, negsuc, [], ◌∷◌, refl}
 use Rattle.hrt_base.specs.declared.literal.Term.{Term}
 use Rattle.pb_rows.specs.Normal.{normal_form}
 use Rattle.pb_rows.specs.Rows.{add, divide, opposite_row, saturate, times, weaken}

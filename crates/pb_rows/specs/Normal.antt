@@ -1,5 +1,5 @@
 -- The normal form of signed terms.
-use Rattle.std.specs.Prelude.{ℕ, zero, suc, ◌+◌, max, ℤ, pos, negsuc, neg_ℤ, ◌+ℤ◌, ◌-ℤ◌, Bool, true, false, if◌then◌else◌, List, [], ◌∷◌, ◌++◌}
+use Rattle.std.specs.Prelude.{ℕ, zero, suc, ◌+◌, max, ℤ, pos, negsuc, neg_ℤ, ◌+ℤ◌, ◌-ℤ◌, true, false, if◌then◌else◌, List, [], ◌∷◌, ◌++◌}
 use Rattle.std.specs.Int.RustNames.{unsigned_abs}
 use Rattle.hrt_base.specs.declared.literal.Term.{Term}
 use Rattle.pb_rows.specs.Terms.{PlainRow, is_over, weighing}

@@ -1,4 +1,4 @@
-use Rattle.std.proofs.Common.{◌≡◌, ◌<◌, ◌++◌, [], arith, sym}
+use Rattle.std.proofs.Common.{◌≡◌, ◌<◌, [], arith, sym}
 use Rattle.pb_rows.proofs.Heads.{lost_all_le, merges_both, merges_first, merges_last, merges_later}
 use Rattle.pb_rows.proofs.join.loss.Goals as goal
 

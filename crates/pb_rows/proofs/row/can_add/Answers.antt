@@ -1,4 +1,4 @@
-use Rattle.std.proofs.Common.{◌≡◌, ◌≤◌, ◌<◌, ◌+◌, ◌-◌, ◌*◌, ◌^◌, ◌∙◌, ap, ap₂, arith}
+use Rattle.std.proofs.Common.{◌+◌, ◌-◌, ◌*◌, ◌∙◌, ap, ap₂, arith}
 use Rattle.pb_rows.specs.Terms.{coef_sum}
 use Rattle.pb_rows.specs.Joined.{lost_all}
 use Rattle.pb_rows.proofs.Forms.{put_all_sum_is, tests_degree, tests_sum}

@@ -92,7 +92,7 @@ coefs-blocks lists m p u =
 
 -- ---- the row's value
 
-value_step : (b : Bool) (n s : ℕ) (v : ℤ) → v ≡ pos s → (if b then pos n else pos 0) +ℤ v ≡ pos ((if b then n else 0) + s)
+pub value_step : (b : Bool) (n s : ℕ) (v : ℤ) → v ≡ pos s → (if b then pos n else pos 0) +ℤ v ≡ pos ((if b then n else 0) + s)
 value_step true n s v e = omega (arith, ints)
 value_step false n s v e = omega (arith, ints)
 
@@ -108,7 +108,7 @@ value_filter : (point : Point) (f : ℕ → ℕ) (q : ℕ) (qs : List ℕ) (s : 
 value_filter point f q qs s true e h = value_step (point q) (f q) s _ h
 value_filter point f q qs s false e h = h ∙ ap pos (nothing (point q) (f q) s e)
 
-value_of_terms : (point : Point) (f : ℕ → ℕ) (qs : List ℕ) → value_at point (terms_of f (filter (λ q. nat_lt 0 (f q)) qs)) ≡ pos (sum_by (λ q. if point q then f q else 0) qs)
+pub value_of_terms : (point : Point) (f : ℕ → ℕ) (qs : List ℕ) → value_at point (terms_of f (filter (λ q. nat_lt 0 (f q)) qs)) ≡ pos (sum_by (λ q. if point q then f q else 0) qs)
 value_of_terms point f [] = refl
 value_of_terms point f (q ∷ qs) =
     value_filter point f q _ _ (nat_lt 0 (f q)) refl (value_of_terms point f qs) ∙ ap pos (sym (sum_by-cons (λ q. if point q then f q else 0) q qs))

@@ -1,15 +1,19 @@
 -- What the steps of making a model leave.
-use Rattle.std.specs.Prelude.{◌≡◌, ℕ, ◌+◌, Bool, ◌==◌, nat_le, if◌then◌else◌, List, [], ◌∷◌, ◌++◌, length, map, get_or, Option, Some, None, pos}
+use Rattle.std.specs.Prelude.{◌≡◌, ◌≤◌, ℕ, ◌+◌, Bool, ◌==◌, nat_le, if◌then◌else◌, List, [], ◌∷◌, ◌++◌, length, map, get_or, Option, Some, None, pos}
 use Rattle.hrt_base.specs.declared.literal.Term.{Term}
 use Rattle.std.specs.declared.vec.Vec.{Vec}
 use Rattle.pb_rows.specs.Terms.{PlainRow}
 use Rattle.pb_rows.specs.Rows.{in_normal_form}
+use Rattle.rank_tables.specs.Numbers.{below}
 use Rattle.rank_tables.specs.Instance.{Lists, capacity_of, pair_at, rank_by_hospital, rank_by_resident}
-use Rattle.stability_model.specs.Model.{at_most, has_any, term}
+use Rattle.stability_model.specs.Model.{at_most, has_any, hospital_row_no, hospital_rows, resident_row_no, resident_rows, rows, term}
 
--- the row at a place among rows that grow, and none past the end
+-- lists that grow, and the one at a place: none past the end
+abbrev pub items_of : {T A : Type 0} → List (Vec T A) → List (List T)
+items_of buckets = map (λ bucket. bucket.items) buckets
+
 abbrev pub bucket_at : {T A : Type 0} → List (Vec T A) → ℕ → List T
-bucket_at rows h = get_or (map (λ row. row.items) rows) h []
+bucket_at buckets h = get_or (items_of buckets) h []
 
 -- the row of these pairs, if there is one, and its number after so many others
 abbrev pub row_if_any : ℕ → List ℕ → List PlainRow
@@ -32,3 +36,12 @@ hospital_share lists p q =
 
 abbrev pub counted_terms : (ℕ → ℕ) → List ℕ → List Term
 counted_terms f ps = map (λ q. term (pos (f q)) q) ps
+
+-- What a model keeps beside its instance: its rows, the numbers of the rows of residents and of hospitals, and how many
+-- rows stand before those of pairs.
+pub record IsModelOf (lists : Lists) (made : List PlainRow) (resident_numbers hospital_numbers : List (Option ℕ)) (before_pairs : ℕ) : Type 0 where
+  pub rows_are : made ≡ rows lists
+  pub residents_are : resident_numbers ≡ map (resident_row_no lists) (below (length lists.residents))
+  pub hospitals_are : hospital_numbers ≡ map (hospital_row_no lists) (below (length lists.hospitals))
+  pub before_is : before_pairs ≡ length (resident_rows lists) + length (hospital_rows lists)
+  pub few : length made ≤ 140000

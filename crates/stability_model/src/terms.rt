@@ -1,5 +1,5 @@
 // The terms of the rows, before they are joined.
-ghost use Rattle.std.specs.Prelude.{◌≡◌, ◌+◌, ◌≤◌, ◌++◌, pos, neg_ℤ, IfOk, OnOk, All};
+ghost use Rattle.std.specs.Prelude.{◌≡◌, ◌+◌, ◌≤◌, ◌++◌, pos, neg_ℤ, false, IfOk, OnOk, All};
 ghost use Rattle.rank_tables.specs.Instance.{capacity_of, pair_at, pairs_of_resident};
 ghost use Rattle.rank_tables.specs.WellFormed.{most_capacity};
 ghost use Rattle.rank_tables.specs.Tables.{IsOfHospital, IsPairNo, numbers_of};
@@ -12,8 +12,7 @@ use std::alloc::{AllocError, Global};
 
 // The literal of a pair.
 fn lit(p: PairNo) -> Lit
-    ensures { result.var ≡ p.0 }
-    ensures { result.neg ≡ false }
+    ensures { result ≡ record { var = p.0; neg = false } }
 {
     Lit {
         var: p.0,

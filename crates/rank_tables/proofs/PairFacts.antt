@@ -8,7 +8,7 @@ use Rattle.std.proofs.lemmas.List.Quantifiers.{position-Some}
 use Rattle.std.proofs.lemmas.Option.{slice_get_past, unwrap_or-slice_get}
 use Rattle.std.proofs.lemmas.Bool.{cases_lt, cases_Bool, eqb-true, and_parts}
 use Rattle.rank_tables.specs.Numbers.{below, numbers_to, is_in}
-use Rattle.rank_tables.specs.Instance.{Lists, Pair, no_pair, groups_of_resident, groups_of_hospital, resident_names, hospital_names, pairs_from, pairs, pair_count, pair_at, pair_no, rank_in, rank_by_resident, rank_by_hospital, pairs_of_resident, pairs_as_listed}
+use Rattle.rank_tables.specs.Instance.{Lists, Pair, no_pair, groups_of_resident, groups_of_hospital, resident_names, hospital_names, pairs_from, pairs, pair_count, pair_at, pair_no, rank_in, rank_by_resident, rank_by_hospital, pairs_of_resident, pairs_of_hospital, pairs_as_listed}
 use Rattle.rank_tables.specs.Tables.{IsPairNo, IsOfResident, IsOfHospital}
 use Rattle.rank_tables.proofs.Below.{numbers_to-within, find-numbers_to, find-filter}
 
@@ -25,8 +25,9 @@ hospital_names-declared lists h r e = elim (cases_lt h (length lists.hospitals))
   | inr past ↦ absurd (cc (e, ap (λ o. is_in r (concat (unwrap_or (option_map (λ hospital. hospital.groups) o) []))) (slice_get_past lists.hospitals h past)))
 ]
 
-all_in : (xs : List ℕ) → All (λ x. is_in x xs ≡ true) xs
-all_in xs k d l = list_any_at (λ y. y == get_or xs k d) xs k d l (eq-eqb _ _ refl)
+-- each number of a list stands in it
+pub All-is_in : (xs : List ℕ) → All (λ x. is_in x xs ≡ true) xs
+All-is_in xs k d l = list_any_at (λ y. y == get_or xs k d) xs k d l (eq-eqb _ _ refl)
 
 all_from : (lists : Lists) (r : ℕ) → r < length lists.residents → All (IsAcceptable lists) (pairs_from lists r)
 all_from lists r l =
@@ -35,7 +36,7 @@ all_from lists r l =
     All-map (IsAcceptable lists) (λ h. record { resident = r; hospital = h }) (filter test xs) (λ k d s. record {
       resident_declared = l;
       hospital_declared = hospital_names-declared lists _ r (filter_passes test xs k d s);
-      names_hospital = All-filter test (λ x. is_in x xs ≡ true) xs (all_in xs) k d s;
+      names_hospital = All-filter test (λ x. is_in x xs ≡ true) xs (All-is_in xs) k d s;
       names_resident = filter_passes test xs k d s;
     })
 
@@ -107,6 +108,15 @@ pairs_of_resident-each lists r k d l =
     record {
       number = All-filter test (IsPairNo lists) all (numbers_to-within (pair_count lists) (pair_count lists) (omega arith)) k d l;
       resident = eqb-true _ _ (filter_passes test all k d l);
+    }
+
+pub pairs_of_hospital-each : (lists : Lists) (h : ℕ) → All (IsOfHospital lists h) (pairs_of_hospital lists h)
+pairs_of_hospital-each lists h k d l =
+    let test : ℕ → Bool = λ p. (pair_at lists p).hospital == h in
+    let all = numbers_to (pair_count lists) in
+    record {
+      number = All-filter test (IsPairNo lists) all (numbers_to-within (pair_count lists) (pair_count lists) (omega arith)) k d l;
+      hospital = eqb-true _ _ (filter_passes test all k d l);
     }
 
 listed_more : (lists : Lists) (h r : ℕ) (o : Option ℕ) (rest : List ℕ) → pair_no lists r h ≡ o → All (IsOfHospital lists h) rest →

@@ -5,3 +5,4 @@ pub mod Instance
 pub mod Stability
 pub mod WellFormed
 pub mod Tables
+pub mod Building

@@ -1,58 +1,56 @@
 // An instance: the written lists, and tables over them.
-ghost use Rattle.std.specs.Prelude.{◌≡◌, ◌+◌, ◌<◌, ◌≤◌, length, map, All, option_map, slice_get, nat_lt, Some, IfOk, IsOk, IfErr};
-ghost use Rattle.rank_tables.specs.Instance.{Lists, lists_of, pair_count, pair_at, pair_no, rank_by_resident, rank_by_hospital, pairs_of_resident, pairs_of_hospital, pairs_as_listed, one_sided, capacity_of, groups_of_resident, groups_of_hospital};
+ghost use Rattle.std.specs.Prelude.{◌≡◌, ◌+◌, ◌<◌, ◌≤◌, length, map, All, option_map, slice_get, nat_lt, Some, IfSome, is_some, ◌&&◌, IfOk, IsOk, IfErr};
+ghost use Rattle.rank_tables.specs.Instance.{Lists, lists_of, pair_count, pair_at, pair_no, rank_by_resident, rank_by_hospital, pairs_of_resident, pairs_of_hospital, pairs_as_listed, one_sided, capacity_of, groups_of_resident, groups_of_hospital, resident_names, hospital_names};
 ghost use Rattle.rank_tables.specs.WellFormed.{IsWellFormed, names_of_residents, names_of_hospitals, most_residents, most_hospitals, most_capacity, most_pairs};
 ghost use Rattle.rank_tables.specs.Tables.{IsPairNo, IsOfResident, IsOfHospital, numbers_of, entry_of};
 
 use crate::entry::PairEntry;
-use crate::{Draft, DraftHospital, DraftResident, Groups, Name};
+use crate::tables::{Tables, tables_of};
+use crate::{BuildRefusal, Draft, DraftHospital, DraftResident, Groups, Name};
 use hrt_base::PairNo;
 use std::alloc::Global;
 use std::marker::Model;
-use thiserror::Error;
-
-/// Why no instance was built.
-#[derive(Debug, Drop, Error)]
-pub enum BuildRefusal {
-    #[error("there are more than 100,000 acceptable pairs")]
-    TooManyPairs,
-    #[error("out of memory")]
-    NoMemory,
-}
 
 /// An instance, seen as its written lists. Residents and hospitals are numbered from 0, pairs from 1.
 #[derive(Debug, Drop)]
 pub struct Instance {
     residents: Vec<DraftResident>,
     hospitals: Vec<DraftHospital>,
-    entries: Vec<PairEntry>,
-    by_resident: Vec<Vec<PairNo>>,
-    by_hospital: Vec<Vec<PairNo>>,
-    unanswered: u32,
+    tables: Tables,
 }
 
 impl Model for Instance {
-    ghost use Rattle.std.specs.Prelude.{map};
     ghost use Rattle.rank_tables.specs.Instance.{Lists};
     ghost use Rattle.rank_tables.specs.Tables.{AreTables};
+    ghost use Rattle.rank_tables.specs.Building.{rows_of};
 
     ghost Value = { Lists };
 
     ghost view = { λ i. record { residents = i.residents.items; hospitals = i.hospitals.items } };
 
     ghost invariant = { λ i. AreTables (record { residents = i.residents.items; hospitals = i.hospitals.items })
-        i.entries.items (map (λ row. row.items) i.by_resident.items) (map (λ row. row.items) i.by_hospital.items) i.unanswered };
+        i.tables.entries.items (rows_of i.tables.by_resident.items) (rows_of i.tables.by_hospital.items) i.tables.unanswered };
 }
 
 impl Instance {
-    /// The instance of a draft. `TooManyPairs` is answered from 100,001 acceptable pairs on.
-    pub fn build(_alloc: Global, _draft: Draft) -> Result<Instance, BuildRefusal>
-        requires { IsWellFormed (lists_of _draft) }
-        ensures ok { IfOk result (λ instance. instance ≡ lists_of _draft) }
-        ensures few { IsOk result → pair_count (lists_of _draft) ≤ most_pairs }
-        ensures too_many { IfErr result (λ refusal. refusal ≡ BuildRefusal.TooManyPairs → most_pairs < pair_count (lists_of _draft)) }
+    /// The instance of a draft. `TooManyPairs` is answered from 100,001 acceptable pairs on. The time grows linearly with
+    /// the number of namings.
+    pub fn build(alloc: Global, draft: Draft) -> Result<Instance, BuildRefusal>
+        requires { IsWellFormed (lists_of draft) }
+        ensures ok { IfOk result (λ instance. instance ≡ lists_of draft) }
+        ensures few { IsOk result → pair_count (lists_of draft) ≤ most_pairs }
+        ensures too_many { IfErr result (λ refusal. refusal ≡ BuildRefusal.TooManyPairs → most_pairs < pair_count (lists_of draft)) }
     {
-        Err(BuildRefusal::NoMemory)
+        let Draft {
+            residents,
+            hospitals,
+        } = draft;
+        let tables = tables_of(alloc, &residents, &hospitals)?;
+        Ok(Instance {
+            residents,
+            hospitals,
+            tables,
+        })
     }
 
     /// How many residents there are.
@@ -78,14 +76,14 @@ impl Instance {
         ensures count { result ≡ pair_count self.now }
         ensures few { result ≤ most_pairs }
     {
-        self.entries.len() as u32
+        self.tables.entries.len() as u32
     }
 
     /// How many namings aren't answered, on both sides together.
     pub fn one_sided(&self) -> u32
         ensures { result ≡ one_sided self.now }
     {
-        self.unanswered
+        self.tables.unanswered
     }
 
     /// How many posts hospital h has. It may be none.
@@ -134,7 +132,7 @@ impl Instance {
         requires { IsPairNo self.now p.0 }
         ensures { result ≡ entry_of self.now p.0 }
     {
-        self.entries[p.0 as usize - 1]
+        self.tables.entries[p.0 as usize - 1]
     }
 
     /// The resident of pair p.
@@ -160,7 +158,9 @@ impl Instance {
     pub fn pair_no(&self, r: u32, h: u32) -> Option<PairNo>
         requires resident { r < length self.now.residents }
         requires hospital { h < length self.now.hospitals }
-        ensures { option_map (λ p. p.0) result ≡ pair_no self.now r h }
+        ensures number { option_map (λ p. p.0) result ≡ pair_no self.now r h }
+        ensures acceptable { is_some result ≡ (resident_names self.now r h && hospital_names self.now h r) }
+        ensures pair { IfSome result (λ p. IsPairNo self.now p.0 × ((pair_at self.now p.0).resident ≡ r) × ((pair_at self.now p.0).hospital ≡ h)) }
     {
         for p in self.pairs_of_resident(r) {
             if self.hospital_of(*p) == h {
@@ -214,7 +214,7 @@ impl Instance {
         ensures numbers { numbers_of result.now ≡ pairs_of_resident self.now r }
         ensures each { All (λ p. IsOfResident self.now r p.0) result.now }
     {
-        &self.by_resident[r as usize]
+        &self.tables.by_resident[r as usize]
     }
 
     /// The pairs of hospital h in the order of its list.
@@ -223,6 +223,6 @@ impl Instance {
         ensures numbers { numbers_of result.now ≡ pairs_as_listed self.now h }
         ensures each { All (λ p. IsOfHospital self.now h p.0) result.now }
     {
-        &self.by_hospital[h as usize]
+        &self.tables.by_hospital[h as usize]
     }
 }

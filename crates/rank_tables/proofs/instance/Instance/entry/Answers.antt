@@ -6,7 +6,7 @@ use Rattle.rank_tables.proofs.instance.Instance.entry.Goals as goal
 
 pub index-requires : goal.index-requires
 index-requires c =
-    omega (arith, c.self.inside.entries.ok.0, count-entries c.self.invariant, ap pair_count c.self.view_is)
+    omega (arith, c.self.inside.tables.entries.ok.0, count-entries c.self.invariant, ap pair_count c.self.view_is)
 
 pub returns : goal.returns
 returns c =

@@ -8,12 +8,12 @@ use Rattle.rank_tables.proofs.instance.Instance.pairs_of_hospital.Goals as goal
 
 pub index-requires : goal.index-requires
 index-requires c =
-    let rows = c.self.inside.by_hospital in
+    let rows = c.self.inside.tables.by_hospital in
     omega (arith, rows.ok.0, length-map rows.items (λ row. row.items), count-cols c.self.invariant, ap (λ (x : Lists). length x.hospitals) c.self.view_is, c.requires)
 
 pub returns-clause-numbers : goal.returns-clause-numbers
 returns-clause-numbers c =
-    let rows = c.self.inside.by_hospital in
+    let rows = c.self.inside.tables.by_hospital in
     let declared : c.args.h < length c.self.inside.hospitals.items = omega (arith, ap (λ (x : Lists). length x.hospitals) c.self.view_is, c.requires) in
     let count = count-cols c.self.invariant in
     let within : c.args.h < length rows.items = omega (arith, length-map rows.items (λ row. row.items), count, declared) in

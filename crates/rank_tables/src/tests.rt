@@ -1,0 +1,126 @@
+//! Each public call once, with ample memory.
+ghost use Rattle.std.specs.Prelude.{◌≡◌, ◌<◌, [], ◌∷◌, IfOk, IsTrue};
+ghost use Rattle.rank_tables.specs.Names.{is_name};
+ghost use Rattle.rank_tables.specs.Instance.{lists_of};
+ghost use Rattle.rank_tables.proofs.Worked.{mixed};
+
+use crate::{Draft, DraftHospital, DraftResident, Groups, Instance, Name};
+use hrt_base::{NoMemory, PairNo};
+use std::alloc::Global;
+use std::test::Fail;
+
+#[test]
+fn a_name(rt: HostRuntime) -> Result<(), Fail> {
+    let name = Name::new(rt.alloc(), b"anna".as_slice())?;
+    assert_eq!(rt; name.bytes(), b"anna".as_slice());
+    Ok(())
+}
+
+#[test]
+fn groups(rt: HostRuntime) -> Result<(), Fail> {
+    let mut list = Groups::new(rt.alloc());
+    assert_eq!(rt; list.count(), 0);
+    list.push(4, false)?;
+    list.push(2, true)?;
+    list.push(7, false)?;
+    assert_eq!(rt; list.count(), 2);
+    assert_eq!(rt; list.group(0), [4, 2].as_slice());
+    assert_eq!(rt; list.group(1), [7].as_slice());
+    Ok(())
+}
+
+// A list of two groups, the first of two numbers where it is tied.
+fn list_of(alloc: Global, first: u32, second: u32, tied: bool) -> Result<Groups, NoMemory>
+    ensures together { tied ≡ true → IfOk result (λ list. list ≡ (first ∷ second ∷ []) ∷ []) }
+    ensures apart { tied ≡ false → IfOk result (λ list. list ≡ (first ∷ []) ∷ (second ∷ []) ∷ []) }
+{
+    let mut list = Groups::new(alloc);
+    list.push(first, false)?;
+    list.push(second, tied)?;
+    Ok(list)
+}
+
+// a: (x y) z, b: y x, c: x z
+fn residents(alloc: Global) -> Result<Vec<DraftResident>, NoMemory>
+    ensures { IfOk result (λ residents. residents.items ≡ mixed.residents) }
+{
+    let mut first = list_of(alloc, 0, 1, true)?;
+    first.push(2, false)?;
+    let mut residents = Vec::new(alloc);
+    residents.push(DraftResident {
+        name: Name::new(alloc, b"a".as_slice())?,
+        groups: first,
+    })?;
+    residents.push(DraftResident {
+        name: Name::new(alloc, b"b".as_slice())?,
+        groups: list_of(alloc, 1, 0, false)?,
+    })?;
+    residents.push(DraftResident {
+        name: Name::new(alloc, b"c".as_slice())?,
+        groups: list_of(alloc, 0, 2, false)?,
+    })?;
+    Ok(residents)
+}
+
+// x 1: (b a) c, y 2: b a, z 1: a
+fn hospitals(alloc: Global) -> Result<Vec<DraftHospital>, NoMemory>
+    ensures { IfOk result (λ hospitals. hospitals.items ≡ mixed.hospitals) }
+{
+    let mut first = list_of(alloc, 1, 0, true)?;
+    first.push(2, false)?;
+    let mut third = Groups::new(alloc);
+    third.push(0, false)?;
+    let mut hospitals = Vec::new(alloc);
+    hospitals.push(DraftHospital {
+        name: Name::new(alloc, b"x".as_slice())?,
+        capacity: 1,
+        groups: first,
+    })?;
+    hospitals.push(DraftHospital {
+        name: Name::new(alloc, b"y".as_slice())?,
+        capacity: 2,
+        groups: list_of(alloc, 1, 0, false)?,
+    })?;
+    hospitals.push(DraftHospital {
+        name: Name::new(alloc, b"z".as_slice())?,
+        capacity: 1,
+        groups: third,
+    })?;
+    Ok(hospitals)
+}
+
+#[test]
+fn an_instance(rt: HostRuntime) -> Result<(), Fail> {
+    let draft = Draft {
+        residents: residents(rt.alloc())?,
+        hospitals: hospitals(rt.alloc())?,
+    };
+    let instance = Instance::build(rt.alloc(), draft)?;
+    assert_eq!(rt; instance.residents(), 3);
+    assert_eq!(rt; instance.hospitals(), 3);
+    assert_eq!(rt; instance.pairs(), 6);
+    assert_eq!(rt; instance.one_sided(), 1);
+    assert_eq!(rt; instance.capacity(1), 2);
+    assert_eq!(rt; instance.resident_name(2).bytes(), b"c".as_slice());
+    assert_eq!(rt; instance.hospital_name(2).bytes(), b"z".as_slice());
+    assert_eq!(rt; instance.resident_list(2).count(), 2);
+    assert_eq!(rt; instance.hospital_list(0).count(), 2);
+    assert_eq!(rt; instance.pair_no(1, 0), Some(PairNo(5)));
+    assert_eq!(rt; instance.pair_no(2, 2), None);
+    assert_eq!(rt; instance.pairs_of_resident(1), [PairNo(4), PairNo(5)].as_slice());
+    assert_eq!(rt; instance.pairs_of_hospital(0), [PairNo(5), PairNo(1), PairNo(6)].as_slice());
+    assert_eq!(rt; instance.resident_of(PairNo(6)), 2);
+    assert_eq!(rt; instance.hospital_of(PairNo(6)), 0);
+    assert_eq!(rt; instance.rank_by_resident(PairNo(3)), 2);
+    assert_eq!(rt; instance.rank_by_hospital(PairNo(6)), 2);
+    assert_eq!(rt; instance.resident_of(PairNo(1)), 0);
+    assert_eq!(rt; instance.resident_of(PairNo(2)), 0);
+    assert_eq!(rt; instance.resident_of(PairNo(3)), 0);
+    assert!(rt; instance.resident_prefers(PairNo(1), PairNo(3)));
+    assert!(rt; !instance.resident_prefers(PairNo(1), PairNo(2)), "x and y are tied");
+    assert_eq!(rt; instance.hospital_of(PairNo(1)), 0);
+    assert_eq!(rt; instance.hospital_of(PairNo(5)), 0);
+    assert!(rt; instance.hospital_prefers(PairNo(5), PairNo(6)));
+    assert!(rt; !instance.hospital_prefers(PairNo(5), PairNo(1)), "a and b are tied");
+    Ok(())
+}

@@ -1,0 +1,12 @@
+pub mod Values
+pub mod Order
+pub mod Heads
+pub mod Sums
+pub mod Changes
+pub mod Signs
+pub mod Lasts
+pub mod ByNets
+pub mod Forms
+pub mod Covers
+pub mod Implied
+mod Worked

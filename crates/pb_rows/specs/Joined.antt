@@ -1,0 +1,123 @@
+-- How the code joins terms, one after another, and what its steps leave in the list that they write. A normal form is the
+-- same row; no public clause speaks of this one.
+use Rattle.std.specs.Prelude.{◌≡◌, ◌≤◌, ◌+◌, ◌-◌, ℕ, zero, suc, ℤ, pos, negsuc, ◌+ℤ◌, Bool, true, false, not, if◌then◌else◌, nat_lt, min, List, [], ◌∷◌, ◌++◌}
+use Rattle.std.specs.List.{AllByRecursion}
+use Rattle.std.specs.Int.RustNames.{unsigned_abs}
+use Rattle.hrt_base.specs.declared.literal.Lit.{Lit}
+use Rattle.hrt_base.specs.declared.literal.Term.{Term}
+use Rattle.pb_rows.specs.declared.join.Joined.{Joined}
+use Rattle.pb_rows.specs.Terms.{IsPositive, PlainRow, coef_sum, opposite_lit, weighing, weight}
+use Rattle.pb_rows.specs.Normal.{or_zero}
+
+-- ---- signs: `-a x` is `a ~x - a`
+
+abbrev pub is_negative : ℤ → Bool
+is_negative (pos n) = false
+is_negative (negsuc n) = true
+
+-- the term, unless its coefficient is 0
+abbrev pub remains : ℕ → Lit → List Term
+remains zero l = []
+remains (suc n) l = weighing (suc n) l ∷ []
+
+abbrev pub signless_lit : Term → Lit
+signless_lit t = if is_negative t.coef then opposite_lit t.lit else t.lit
+
+abbrev pub signless : Term → List Term
+signless t = remains (unsigned_abs t.coef) (signless_lit t)
+
+abbrev pub signless_all : List Term → List Term
+signless_all [] = []
+signless_all (t ∷ ts) = signless t ++ signless_all ts
+
+-- what a change of sign adds to the other side
+abbrev pub turned : Term → ℕ
+turned t = if is_negative t.coef then unsigned_abs t.coef else 0
+
+abbrev pub turned_sum : List Term → ℕ
+turned_sum [] = 0
+turned_sum (t ∷ ts) = turned t + turned_sum ts
+
+-- ---- joining: `~x` is `1 - x`
+
+abbrev pub same_sign : Bool → Bool → Bool
+same_sign a b = if a then b else not b
+
+abbrev pub are_alike : Term → Term → Bool
+are_alike t u = same_sign t.lit.neg u.lit.neg
+
+-- what stays of two terms over one variable
+abbrev pub met : Term → Term → List Term
+met t u =
+    if are_alike t u then weighing (weight t.coef + weight u.coef) u.lit ∷ []
+    else (remains (weight u.coef - weight t.coef) u.lit ++ remains (weight t.coef - weight u.coef) t.lit)
+
+-- what they lose: of `a x` and `b ~x` the smaller of a and b is true at every point
+abbrev pub lost_between : Term → Term → ℕ
+lost_between t u = if are_alike t u then 0 else min (weight t.coef) (weight u.coef)
+
+-- the list with one more term
+abbrev pub put : Term → List Term → List Term
+put t [] = t ∷ []
+put t (u ∷ us) =
+    if nat_lt t.lit.var u.lit.var then t ∷ u ∷ us
+    else (if nat_lt u.lit.var t.lit.var then u ∷ put t us else met t u ++ us)
+
+abbrev pub lost : Term → List Term → ℕ
+lost t [] = 0
+lost t (u ∷ us) =
+    if nat_lt t.lit.var u.lit.var then 0
+    else (if nat_lt u.lit.var t.lit.var then lost t us else lost_between t u)
+
+-- the list with more terms, one after another
+abbrev pub put_all : List Term → List Term → List Term
+put_all us [] = us
+put_all us (t ∷ ts) = put_all (put t us) ts
+
+abbrev pub lost_all : List Term → List Term → ℕ
+lost_all us [] = 0
+lost_all us (t ∷ ts) = lost t us + lost_all (put t us) ts
+
+-- ---- rows made so
+
+abbrev pub joined_form : List Term → ℤ → PlainRow
+joined_form terms at_least = record {
+  terms = put_all [] (signless_all terms);
+  degree = or_zero (at_least +ℤ pos (turned_sum terms)) - lost_all [] (signless_all terms);
+}
+
+abbrev pub merged : PlainRow → PlainRow → PlainRow
+merged a b = record { terms = put_all a.terms b.terms; degree = (a.degree + b.degree) - lost_all a.terms b.terms }
+
+-- ---- steps
+
+pub record IsJoinOf (us ts : List Term) (joined : Joined) : Type 0 where
+  pub terms : joined.terms.items ≡ put_all us ts
+  pub lost : joined.lost ≡ lost_all us ts
+
+pub record MeetsTo (t u : Term) (before after : List Term) (gone : ℕ) : Type 0 where
+  pub terms : after ≡ before ++ met t u
+  pub lost : gone ≡ lost_between t u
+
+pub record PutsTo (t : Term) (before after : List Term) (gone : ℕ) : Type 0 where
+  pub terms : after ≡ put t before
+  pub loss : gone ≡ lost t before
+
+-- every term's variable is at least `low`, and its coefficient positive
+abbrev pub AreFrom : ℕ → List Term → Type 0
+AreFrom low = AllByRecursion (λ (t : Term). (low ≤ t.lit.var) × IsPositive t.coef)
+
+abbrev pub AreUpTo : ℕ → List Term → Type 0
+AreUpTo high = AllByRecursion (λ (t : Term). t.lit.var ≤ high)
+
+-- variables that don't fall, from `low` on, and positive coefficients
+abbrev pub IsSortedFrom : ℕ → List Term → Type 0
+IsSortedFrom low [] = Unit {0}
+IsSortedFrom low (t ∷ ts) = (low ≤ t.lit.var) × IsPositive t.coef × IsSortedFrom t.lit.var ts
+
+-- a sorted copy joins to the same terms, with the same loss
+pub record IsSortedCopy (ts us : List Term) : Type 0 where
+  pub sorted : IsSortedFrom 0 us
+  pub terms : put_all [] us ≡ put_all [] ts
+  pub losses : lost_all [] us ≡ lost_all [] ts
+  pub sum : coef_sum us ≡ coef_sum ts

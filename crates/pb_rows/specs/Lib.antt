@@ -1,0 +1,6 @@
+pub mod Terms
+pub mod Points
+pub mod Normal
+pub mod Rows
+pub mod Closure
+pub mod Joined

@@ -1,0 +1,61 @@
+-- The normal form of signed terms.
+use Rattle.std.specs.Prelude.{ℕ, zero, suc, ◌+◌, max, ℤ, pos, negsuc, neg_ℤ, ◌+ℤ◌, ◌-ℤ◌, true, false, if◌then◌else◌, List, [], ◌∷◌, ◌++◌}
+use Rattle.std.specs.Int.RustNames.{unsigned_abs}
+use Rattle.hrt_base.specs.declared.literal.Term.{Term}
+use Rattle.pb_rows.specs.Terms.{PlainRow, is_over, weighing}
+
+-- ---- the net coefficient of each variable
+
+-- A term c ~x is c - c x. So the terms over a variable v join to a net coefficient on v, and the right side loses the
+-- coefficients on opposites. A net coefficient -a on v is then written as a ~v - a.
+abbrev pub net : ℕ → List Term → ℤ
+net v [] = pos 0
+net v (t ∷ ts) = (if is_over v t then (if t.lit.neg then neg_ℤ t.coef else t.coef) else pos 0) +ℤ net v ts
+
+abbrev pub on_opposites : List Term → ℤ
+on_opposites [] = pos 0
+on_opposites (t ∷ ts) = (if t.lit.neg then t.coef else pos 0) +ℤ on_opposites ts
+
+-- the term of a variable whose net coefficient is given: none where that is 0
+abbrev pub net_term : ℕ → ℤ → List Term
+net_term v (pos zero) = []
+net_term v (pos (suc a)) = weighing (suc a) (record { var = v; neg = false }) ∷ []
+net_term v (negsuc a) = weighing (suc a) (record { var = v; neg = true }) ∷ []
+
+abbrev pub negative_part : ℤ → ℕ
+negative_part (pos n) = 0
+negative_part (negsuc a) = suc a
+
+-- the joined terms over the variables below n, by rising variable, and what the degree gains from them
+abbrev pub joined : ℕ → List Term → List Term
+joined zero terms = []
+joined (suc v) terms = joined v terms ++ net_term v (net v terms)
+
+abbrev pub gained : ℕ → List Term → ℕ
+gained zero terms = 0
+gained (suc v) terms = gained v terms + negative_part (net v terms)
+
+-- above all variables of the terms
+abbrev pub var_bound : List Term → ℕ
+var_bound [] = 0
+var_bound (t ∷ ts) = max (suc t.lit.var) (var_bound ts)
+
+-- a degree below 0 becomes 0
+abbrev pub or_zero : ℤ → ℕ
+or_zero (pos n) = n
+or_zero (negsuc n) = 0
+
+abbrev pub normal_form : List Term → ℤ → PlainRow
+normal_form terms at_least = record {
+  terms = joined (var_bound terms) terms;
+  degree = or_zero ((at_least -ℤ on_opposites terms) +ℤ pos (gained (var_bound terms) terms));
+}
+
+-- ---- sizes
+
+abbrev pub sizes : List Term → ℕ
+sizes [] = 0
+sizes (t ∷ ts) = unsigned_abs t.coef + sizes ts
+
+abbrev pub all_sizes : List Term → ℤ → ℕ
+all_sizes terms at_least = sizes terms + unsigned_abs at_least

@@ -1,0 +1,78 @@
+-- Rows, the operations on them, and their laws.
+use Rattle.std.specs.Prelude.{◌≡◌, ◌≤◌, ◌+◌, ◌*◌, ◌-◌, ◌^◌, ◌↔◌, ℕ, ℤ, pos, ◌≤ℤ◌, Bool, true, not, nat_le, IsTrue, List, [], ◌∷◌, ◌++◌, map, filter, All}
+use Rattle.std.specs.Int.{div_ceil}
+use Rattle.hrt_base.specs.declared.literal.Lit.{Lit}
+use Rattle.hrt_base.specs.declared.literal.Term.{Term}
+use Rattle.pb_rows.specs.Terms.{IsRisingFrom, PlainRow, Written, capped, coef_sum, divided, is_over, is_present, negated, scaled, weighing, weight_over}
+use Rattle.pb_rows.specs.Points.{Point, true_sum, value_at}
+use Rattle.pb_rows.specs.Normal.{normal_form}
+
+abbrev pub holds : Point → PlainRow → Bool
+holds p r = nat_le r.degree (true_sum p r.terms)
+
+abbrev pub AllHold : Point → List PlainRow → Type 0
+AllHold p rows = All (λ r. IsTrue (holds p r)) rows
+
+-- ---- the operations
+
+-- the row that a written one means
+abbrev pub in_normal_form : Written → PlainRow
+in_normal_form w = normal_form w.terms w.at_least
+
+-- coefficients and degrees are added: the normal form of all terms together
+abbrev pub add : PlainRow → PlainRow → PlainRow
+add a b = normal_form (a.terms ++ b.terms) (pos (a.degree + b.degree))
+
+abbrev pub times : ℕ → PlainRow → PlainRow
+times k r = record { terms = map (scaled k) r.terms; degree = r.degree * k }
+
+-- every number divided and rounded up
+abbrev pub divide : ℕ → PlainRow → PlainRow
+divide k r = record { terms = map (divided k) r.terms; degree = div_ceil r.degree k }
+
+-- no coefficient above the degree
+abbrev pub saturate : PlainRow → PlainRow
+saturate r = record r { terms = filter is_present (map (capped r.degree) r.terms) }
+
+-- the variable goes, and its coefficient is taken from the degree, not below 0
+abbrev pub weaken : ℕ → PlainRow → PlainRow
+weaken v r = record { terms = filter (λ t. not (is_over v t)) r.terms; degree = r.degree - weight_over v r.terms }
+
+-- the row that holds exactly where this one doesn't
+abbrev pub opposite_row : PlainRow → PlainRow
+opposite_row r = record { terms = map negated r.terms; degree = (coef_sum r.terms + 1) - r.degree }
+
+-- the literal is at least 0, which is so everywhere
+abbrev pub literal_row : Lit → PlainRow
+literal_row l = record { terms = weighing 1 l ∷ []; degree = 0 }
+
+-- ---- laws
+
+-- the row holds exactly where the written inequality does
+abbrev pub HoldsWhere : List Term → ℤ → PlainRow → Type 0
+HoldsWhere terms at_least r = (p : Point) → IsTrue (holds p r) ↔ (at_least ≤ℤ value_at p terms)
+
+abbrev pub HoldsAfter : PlainRow → PlainRow → Type 0
+HoldsAfter before after = (p : Point) → holds p before ≡ true → holds p after ≡ true
+
+abbrev pub HoldsWithBoth : PlainRow → PlainRow → PlainRow → Type 0
+HoldsWithBoth a b sum = (p : Point) → holds p a ≡ true → holds p b ≡ true → holds p sum ≡ true
+
+-- a sum holds exactly where the two values together reach the two degrees together
+abbrev pub AddsValues : PlainRow → PlainRow → PlainRow → Type 0
+AddsValues a b sum = (p : Point) → holds p sum ≡ nat_le (a.degree + b.degree) (true_sum p a.terms + true_sum p b.terms)
+
+-- the row and its opposite never hold at one point, and one of them always does
+abbrev pub HoldsElsewhere : PlainRow → PlainRow → Type 0
+HoldsElsewhere r opposite = (p : Point) → holds p opposite ≡ not (holds p r)
+
+-- ---- what fits
+
+pub record Fits (r : PlainRow) : Type 0 where
+  pub sum : coef_sum r.terms ≤ 2 ^ 120
+  pub degree : r.degree ≤ 2 ^ 120
+
+-- what every row keeps: positive coefficients, rising variables, and that it fits
+pub record IsNormal (r : PlainRow) : Type 0 where
+  pub rising : IsRisingFrom 0 r.terms
+  pub fits : Fits r

@@ -1,0 +1,75 @@
+-- Literals and terms: coefficients, and lists of terms by rising variable.
+use Rattle.std.specs.Prelude.{◌≤◌, ◌<◌, ◌+◌, ◌*◌, ◌==◌, ℕ, ℤ, pos, negsuc, Bool, not, if◌then◌else◌, nat_lt, List, [], ◌∷◌, min}
+use Rattle.std.specs.Int.{div_ceil}
+use Rattle.hrt_base.specs.declared.literal.Lit.{Lit}
+use Rattle.hrt_base.specs.declared.literal.Term.{Term}
+
+-- the other literal of the variable
+abbrev pub opposite_lit : Lit → Lit
+opposite_lit l = record { var = l.var; neg = not l.neg }
+
+-- A row as it is written: the terms sum to at least the number. Coefficients may be negative or 0, variables may recur.
+pub record Written : Type 0 where
+  pub terms : List Term
+  pub at_least : ℤ
+
+-- A row in normal form: the coefficients of the true literals sum to at least the degree.
+pub record PlainRow : Type 0 where
+  pub terms : List Term
+  pub degree : ℕ
+
+-- ---- coefficients
+
+abbrev pub IsPositive : ℤ → Type 0
+IsPositive (pos n) = 0 < n
+IsPositive (negsuc n) = ⊥
+
+-- the size of a coefficient that isn't negative
+abbrev pub weight : ℤ → ℕ
+weight (pos n) = n
+weight (negsuc n) = 0
+
+abbrev pub weighing : ℕ → Lit → Term
+weighing n l = record { coef = pos n; lit = l }
+
+abbrev pub coef_sum : List Term → ℕ
+coef_sum [] = 0
+coef_sum (t ∷ ts) = weight t.coef + coef_sum ts
+
+-- positive coefficients, and variables that rise from `low` on
+abbrev pub IsRisingFrom : ℕ → List Term → Type 0
+IsRisingFrom low [] = Unit {0}
+IsRisingFrom low (t ∷ ts) = (low ≤ t.lit.var) × IsPositive t.coef × IsRisingFrom (t.lit.var + 1) ts
+
+-- ---- changed coefficients
+
+abbrev pub reweighed : (ℕ → ℕ) → Term → Term
+reweighed f t = weighing (f (weight t.coef)) t.lit
+
+abbrev pub scaled : ℕ → Term → Term
+scaled k = reweighed (λ w. w * k)
+
+abbrev pub divided : ℕ → Term → Term
+divided k = reweighed (λ w. div_ceil w k)
+
+abbrev pub capped : ℕ → Term → Term
+capped most = reweighed (λ w. min w most)
+
+abbrev pub is_present : Term → Bool
+is_present t = nat_lt 0 (weight t.coef)
+
+abbrev pub negated : Term → Term
+negated t = record t { lit = opposite_lit t.lit }
+
+-- ---- one variable
+
+abbrev pub is_over : ℕ → Term → Bool
+is_over v t = t.lit.var == v
+
+abbrev pub part_over : ℕ → Term → ℕ
+part_over v t = if is_over v t then weight t.coef else 0
+
+-- the coefficient of a variable, or 0
+abbrev pub weight_over : ℕ → List Term → ℕ
+weight_over v [] = 0
+weight_over v (t ∷ ts) = part_over v t + weight_over v ts

@@ -1,0 +1,15 @@
+//! Pseudo-Boolean rows over 0/1 variables, with the operations of cutting planes: addition, multiplication, division with
+//! rounding up, saturation and weakening.
+#![tactic(auto)]
+
+mod join;
+mod normal;
+mod row;
+mod terms;
+#[cfg(test)]
+mod tests;
+
+pub use row::{Row, RowRefusal, TooBig};
+
+/// The most that fits.
+pub(crate) const MOST: u128 = 1 << 120;

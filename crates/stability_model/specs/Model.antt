@@ -1,0 +1,121 @@
+-- The 0/1 model of weak stability, after Kwanashie and Manlove (2014). Variable p is pair number p.
+use Rattle.std.specs.Prelude.{◌≡◌, ℕ, ◌+◌, ◌-◌, Bool, true, false, not, ◌&&◌, ◌==◌, nat_lt, nat_le, if◌then◌else◌, List, [], ◌∷◌, ◌++◌, length, map, filter, count_by, slice_get, Option, Some, None, ℤ, pos, neg_ℤ}
+use Rattle.std.specs.List.{list_all}
+use Rattle.hrt_base.specs.declared.literal.Term.{Term}
+use Rattle.pb_rows.specs.Terms.{PlainRow, Written}
+use Rattle.pb_rows.specs.Points.{Point, value_at}
+use Rattle.pb_rows.specs.Rows.{holds, in_normal_form}
+use Rattle.rank_tables.specs.Numbers.{below, numbers_to, is_in}
+use Rattle.rank_tables.specs.Instance.{Lists, capacity_of, pair_at, pair_count, pairs_of_hospital, pairs_of_resident, rank_by_hospital, rank_by_resident}
+use Rattle.rank_tables.specs.Stability.{blocks, is_matching, is_weakly_stable}
+
+-- a coefficient on the variable of a pair
+abbrev pub term : ℤ → ℕ → Term
+term coef p = record { coef = coef; lit = record { var = p; neg = false } }
+
+-- ---- the rows of residents and of hospitals
+
+-- at most so many of the pairs
+abbrev pub at_most : ℕ → List ℕ → Written
+at_most c ps = record { terms = map (λ p. term (neg_ℤ (pos 1)) p) ps; at_least = neg_ℤ (pos c) }
+
+-- whether there is one
+abbrev pub has_any : List ℕ → Bool
+has_any [] = false
+has_any (p ∷ ps) = true
+
+abbrev pub resident_has_pair : Lists → ℕ → Bool
+resident_has_pair lists r = has_any (pairs_of_resident lists r)
+
+abbrev pub hospital_has_pair : Lists → ℕ → Bool
+hospital_has_pair lists h = has_any (pairs_of_hospital lists h)
+
+-- a resident is in at most one pair, a hospital in at most as many as it has posts
+abbrev pub resident_row : Lists → ℕ → Written
+resident_row lists r = at_most 1 (pairs_of_resident lists r)
+
+abbrev pub hospital_row : Lists → ℕ → Written
+hospital_row lists h = at_most (capacity_of lists h) (pairs_of_hospital lists h)
+
+abbrev pub resident_rows : Lists → List Written
+resident_rows lists = map (resident_row lists) (filter (resident_has_pair lists) (below (length lists.residents)))
+
+abbrev pub hospital_rows : Lists → List Written
+hospital_rows lists = map (hospital_row lists) (filter (hospital_has_pair lists) (below (length lists.hospitals)))
+
+-- ---- the rows of pairs
+
+-- whether q is of the resident of p, which ranks it at least as high as p, and the same of the hospital of p
+abbrev pub is_as_good_for_resident : Lists → ℕ → ℕ → Bool
+is_as_good_for_resident lists p q = (pair_at lists q).resident == (pair_at lists p).resident && nat_le (rank_by_resident lists q) (rank_by_resident lists p)
+
+abbrev pub is_as_good_for_hospital : Lists → ℕ → ℕ → Bool
+is_as_good_for_hospital lists p q = (pair_at lists q).hospital == (pair_at lists p).hospital && nat_le (rank_by_hospital lists q) (rank_by_hospital lists p)
+
+-- the coefficient of pair q in the row of pair p, whose hospital has c posts: c + 1 for p itself, c for another that its
+-- resident ranks at least as high, 1 for another that its hospital ranks at least as high, else 0
+abbrev pub stability_coef : Lists → ℕ → ℕ → ℕ
+stability_coef lists p q =
+    if q == p then capacity_of lists (pair_at lists p).hospital + 1
+    else if is_as_good_for_resident lists p q then capacity_of lists (pair_at lists p).hospital
+    else if is_as_good_for_hospital lists p q then 1
+    else 0
+
+-- terms with coefficient 0 are left out
+abbrev pub pair_row : Lists → ℕ → Written
+pair_row lists p = record {
+  terms = map (λ q. term (pos (stability_coef lists p q)) q) (filter (λ q. nat_lt 0 (stability_coef lists p q)) (numbers_to (pair_count lists)));
+  at_least = pos (capacity_of lists (pair_at lists p).hospital);
+}
+
+-- ---- the model
+
+-- as written: by residents, then by hospitals, then by pairs
+abbrev pub written_rows : Lists → List Written
+written_rows lists = resident_rows lists ++ hospital_rows lists ++ map (pair_row lists) (numbers_to (pair_count lists))
+
+-- row number k, from 1 on, stands at place k - 1
+abbrev pub rows : Lists → List PlainRow
+rows lists = map in_normal_form (written_rows lists)
+
+-- to be made as small as it can be
+abbrev pub objective : Lists → List Term
+objective lists = map (λ p. term (neg_ℤ (pos 1)) p) (numbers_to (pair_count lists))
+
+-- the numbers of the rows of a resident and of a hospital: none where there is no acceptable pair
+abbrev pub resident_row_no : Lists → ℕ → Option ℕ
+resident_row_no lists r = if resident_has_pair lists r then Some (count_by (resident_has_pair lists) (below r) + 1) else None
+
+abbrev pub hospital_row_no : Lists → ℕ → Option ℕ
+hospital_row_no lists h =
+    if hospital_has_pair lists h then Some (length (resident_rows lists) + count_by (hospital_has_pair lists) (below h) + 1) else None
+
+abbrev pub pair_row_no : Lists → ℕ → ℕ
+pair_row_no lists p = length (resident_rows lists) + length (hospital_rows lists) + p
+
+-- row number k is the normal form of this one
+abbrev pub IsRow : Lists → ℕ → Written → Type 0
+IsRow lists k row = slice_get (rows lists) (k - 1) ≡ Some (in_normal_form row)
+
+-- ---- what the model says
+
+abbrev pub all_rows_hold : Lists → Point → Bool
+all_rows_hold lists point = list_all (holds point) (rows lists)
+
+-- the pairs whose variable is 1 at the point, in rising order
+abbrev pub pairs_of_point : Lists → Point → List ℕ
+pairs_of_point lists point = filter point (numbers_to (pair_count lists))
+
+-- the point at which the variables of these pairs are 1, and the others 0
+abbrev pub point_of_pairs : List ℕ → Point
+point_of_pairs m = λ p. is_in p m
+
+-- All rows hold exactly where the pairs of the point are a weakly stable matching, and the objective is minus their number.
+pub record IsExact (lists : Lists) : Type 0 where
+  pub rows : (point : Point) → all_rows_hold lists point ≡ is_weakly_stable lists (pairs_of_point lists point)
+  pub objective : (point : Point) → value_at point (objective lists) ≡ neg_ℤ (pos (length (pairs_of_point lists point)))
+
+-- At a matching the row of a pair holds exactly where that pair doesn't block.
+abbrev pub TellsBlocking : Lists → ℕ → Type 0
+TellsBlocking lists p =
+    (m : List ℕ) → is_matching lists m ≡ true → holds (point_of_pairs m) (in_normal_form (pair_row lists p)) ≡ not (blocks lists m p)

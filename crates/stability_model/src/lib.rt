@@ -1,0 +1,9 @@
+//! The 0/1 model of an instance: its points are exactly the weakly stable matchings.
+#![tactic(auto)]
+
+mod buckets;
+mod making;
+mod model;
+mod terms;
+
+pub use model::Model;

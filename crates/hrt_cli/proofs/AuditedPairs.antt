@@ -1,7 +1,7 @@
 -- What the command that audits pairs comes to.
-use Rattle.std.proofs.Common.{◌≡◌, ◌⊎◌, ◌↔◌, ◌≤◌, ◌<◌, ◌==◌, ◌||◌, ◌&&◌, ℕ, Bool, true, false, cond, nat_le, nat_lt, List, [], ◌∷◌, length, All, Option, Some, None, Result, Ok, Err, option_map, IsTrue, refl, sym, ◌∙◌, ap, subst, arith, inl, inr, eq-eqb}
-use Rattle.std.specs.List.{find, list_all}
-use Rattle.std.proofs.lemmas.Bool.{and_from, and_parts, cases_Bool, cases_eq, leb-true, le-leb, ltb-true, or_left, or_right}
+use Rattle.std.proofs.Common.{◌≡◌, ◌⊎◌, ◌↔◌, ◌<◌, ◌==◌, ◌||◌, ◌&&◌, ℕ, Bool, true, false, cond, nat_le, List, [], ◌∷◌, length, All, Option, Some, None, Result, option_map, IsTrue, refl, sym, ◌∙◌, ap, subst, arith, inl, inr, eq-eqb}
+use Rattle.std.specs.List.{find}
+use Rattle.std.proofs.lemmas.Bool.{and_from, and_parts, cases_eq, leb-true, le-leb, ltb-true, or_left, or_right}
 use Rattle.std.proofs.lemmas.List.Elements.{All-weaker}
 use Rattle.std.proofs.lemmas.List.Folds.{list_all-map}
 use Rattle.std.proofs.lemmas.List.Sums.{list_all-from_AllPass}
@@ -9,15 +9,14 @@ use Rattle.hrt_base.specs.declared.numbered.PairNo.{PairNo}
 use Rattle.hrt_base.specs.declared.port.Port.{Port}
 use Rattle.hrt_base.specs.declared.port.Port.TheVariants.{Instance, Pairs}
 use Rattle.hrt_base.specs.declared.host.Begun.{Begun}
-use Rattle.hrt_base.specs.declared.host.Begun.TheVariants.{Reading, Writing}
+use Rattle.hrt_base.specs.declared.host.Begun.TheVariants.{Reading}
 use Rattle.hrt_base.specs.Calls.{AtStart}
 use Rattle.hrt_base.specs.World.{World, Content, put, with_rest, port_no}
-use Rattle.hrt_base.proofs.Pieces.{port_no-injective, put_here}
+use Rattle.hrt_base.proofs.Pieces.{port_no-injective}
 use Rattle.rank_tables.specs.Numbers.{below, is_distinct, is_in, numbers_to}
 use Rattle.rank_tables.specs.Instance.{Lists, pair_count}
 use Rattle.rank_tables.specs.Stability.{is_weakly_stable}
 use Rattle.rank_tables.specs.Tables.{IsPairNo, numbers_of}
-use Rattle.rank_tables.proofs.Membership.{are_pairs}
 use Rattle.rank_tables.proofs.Numbers.{is_in-below, is_in-numbers_to}
 use Rattle.stability_audit.specs.declared.verdict.Verdict.{Verdict as Audit}
 use Rattle.stability_audit.specs.declared.verdict.Verdict.TheVariants.{Stable, ResidentTwice, OverCapacity, Blocked}
@@ -34,8 +33,8 @@ use Rattle.hrt_cli.specs.Inputs.{OnlyRead, but_for_rest}
 use Rattle.hrt_cli.specs.Loading.{ArePairsLoaded, ArePairsRejected, IsLoaded, IsRejected}
 use Rattle.hrt_cli.specs.Reports.{NamesDeclared}
 use Rattle.hrt_cli.specs.Requests.{audit}
-use Rattle.hrt_cli.specs.Verdicts.{Rejection, Verdict, audit_status, audit_verdict, audited, exceeded, lists_in, on_file, on_lists, pairs_refused, refused, rejected, status_of, verdict_of, within}
-use Rattle.hrt_cli.proofs.Runs.{put_elsewhere, reads_nothing}
+use Rattle.hrt_cli.specs.Verdicts.{Rejection, Verdict, audit_status, audit_verdict, audited, exceeded, on_file, on_lists, pairs_refused, refused, rejected, status_of, verdict_of}
+use Rattle.hrt_cli.proofs.Runs.{put_elsewhere}
 use Rattle.hrt_cli.proofs.Solving.{reads_instance}
 
 -- ---- whom an audit names
@@ -76,9 +75,9 @@ pub are_pairs_of : (lists : Lists) (pairs : List PairNo) → All (λ p. IsPairNo
 are_pairs_of lists pairs all distinct = record {
   distinct = distinct;
   in_range =
-    list_all-map (λ p. nat_le 1 p && nat_le p (pair_count lists)) (λ (p : PairNo). p.0) pairs
-    ∙ list_all-from_AllPass (λ (p : PairNo). nat_le 1 p.0 && nat_le p.0 (pair_count lists)) pairs
-    (All-weaker (λ (p : PairNo). IsPairNo lists p.0) _ (λ (p : PairNo) h. and_from (nat_le 1 p.0) (nat_le p.0 (pair_count lists)) (le-leb 1 p.0 h.0) (le-leb p.0 (pair_count lists) h.1)) pairs all);
+      list_all-map (λ p. nat_le 1 p && nat_le p (pair_count lists)) (λ (p : PairNo). p.0) pairs
+      ∙ list_all-from_AllPass (λ (p : PairNo). nat_le 1 p.0 && nat_le p.0 (pair_count lists)) pairs
+      (All-weaker (λ (p : PairNo). IsPairNo lists p.0) _ (λ (p : PairNo) h. and_from (nat_le 1 p.0) (nat_le p.0 (pair_count lists)) (le-leb 1 p.0 h.0) (le-leb p.0 (pair_count lists) h.1)) pairs all);
 }
 
 -- ---- worlds
@@ -97,15 +96,15 @@ reads_both : (told : Type 0) (old mid new : World) (left : List ℕ) (verdict : 
     → (left ≡ []) ⊎ (verdict ≡ rejected (exceeded limit.PairsBytes)) → IsReadOut verdict new
 reads_both told old mid new left verdict start begun content begun_pairs content_pairs out p reading = elim (cases_eq (port_no p) (port_no Pairs)) [
   | inl same ↦
-    let e : p ≡ Pairs = port_no-injective p Pairs same in
-    let rest : new.content.rest Pairs ≡ left = ap (λ (c : Content). c.rest Pairs) content_pairs in
-    subst (λ (q : Port). (new.content.rest q ≡ []) ⊎ PassedAt verdict q) (sym e)
-    (subst (λ (l : List ℕ). (l ≡ []) ⊎ (verdict ≡ rejected (exceeded limit.PairsBytes))) (sym rest) out)
+      let e : p ≡ Pairs = port_no-injective p Pairs same in
+      let rest : new.content.rest Pairs ≡ left = ap (λ (c : Content). c.rest Pairs) content_pairs in
+      subst (λ (q : Port). (new.content.rest q ≡ []) ⊎ PassedAt verdict q) (sym e)
+      (subst (λ (l : List ℕ). (l ≡ []) ⊎ (verdict ≡ rejected (exceeded limit.PairsBytes))) (sym rest) out)
   | inr other ↦
-    let here : mid.begun p ≡ Reading = sym (ap (λ (f : Port → Begun). f p) begun_pairs ∙ put_elsewhere Pairs Reading mid.begun p other) ∙ reading in
-    let rest : new.content.rest p ≡ mid.content.rest p = ap (λ (c : Content). c.rest p) content_pairs ∙ put_elsewhere Pairs left mid.content.rest p other in
-    subst (λ (l : List ℕ). (l ≡ []) ⊎ PassedAt verdict p) (sym rest)
-    (reads_instance told old mid verdict start begun (inl (ap (λ (c : Content). c.rest Instance) content)) p here)
+      let here : mid.begun p ≡ Reading = sym (ap (λ (f : Port → Begun). f p) begun_pairs ∙ put_elsewhere Pairs Reading mid.begun p other) ∙ reading in
+      let rest : new.content.rest p ≡ mid.content.rest p = ap (λ (c : Content). c.rest p) content_pairs ∙ put_elsewhere Pairs left mid.content.rest p other in
+      subst (λ (l : List ℕ). (l ≡ []) ⊎ PassedAt verdict p) (sym rest)
+      (reads_instance told old mid verdict start begun (inl (ap (λ (c : Content). c.rest Instance) content)) p here)
 ]
 
 -- ---- answers
@@ -129,9 +128,12 @@ audit_answered told i q lists pairs answer old mid new start loaded read answere
   only_read = then_only_read told old mid new loaded.only_read read.only_read;
   on_files = subst (λ (s : Status). IsTrue (is_on_files s)) (sym answered.status) (status_on_files (is_weakly_stable lists pairs));
   due = λ t.
-    let listed = read.spelled t in
-    (audited lists pairs, audit_due told i q lists listed.0 (audited lists pairs) old mid loaded t listed.1 listed.2, answered,
-    reads_both told old mid new [] (audited lists pairs) start loaded.begun (loaded.content t) read.begun (read.content t) (inl refl));
+      let listed = read.spelled t in (
+        audited lists pairs,
+        audit_due told i q lists listed.0 (audited lists pairs) old mid loaded t listed.1 listed.2,
+        answered,
+        reads_both told old mid new [] (audited lists pairs) start loaded.begun (loaded.content t) read.begun (read.content t) (inl refl),
+      );
 }
 
 rejection_on_files : (rejection : Rejection) → IsTrue (is_on_files (status_of (rejected rejection)))
@@ -149,10 +151,13 @@ pairs_rejected told i q lists rejection answer old mid new start loaded read ans
   only_read = then_only_read told old mid new loaded.only_read read.only_read;
   on_files = subst (λ (s : Status). IsTrue (is_on_files s)) (sym answered.status) (rejection_on_files rejection);
   due = λ t.
-    let listed = read.due t in
-    (rejected rejection, audit_due told i q lists listed.0 (rejected rejection) old mid loaded t listed.1 listed.2, answered,
-    reads_both told old mid new (new.content.rest Pairs) (rejected rejection) start loaded.begun (loaded.content t) read.begun (read.content t)
-    (passed_as rejection limit.PairsBytes (new.content.rest Pairs) (read.out t)));
+      let listed = read.due t in (
+        rejected rejection,
+        audit_due told i q lists listed.0 (rejected rejection) old mid loaded t listed.1 listed.2,
+        answered,
+        reads_both told old mid new (new.content.rest Pairs) (rejected rejection) start loaded.begun (loaded.content t) read.begun (read.content t)
+            (passed_as rejection limit.PairsBytes (new.content.rest Pairs) (read.out t)),
+      );
 }
 
 pub instance_rejected : (told : Type 0) (i q : List ℕ) (rejection : Rejection) (answer : Answer) (old new : World) → AtStart told old
@@ -161,10 +166,10 @@ instance_rejected told i q rejection answer old new start read answered = record
   only_read = read.only_read;
   on_files = subst (λ (s : Status). IsTrue (is_on_files s)) (sym answered.status) (rejection_on_files rejection);
   due = λ t.
-    let text = read.due t in
-    let is : verdict_of (Some (audit i q)) old.content.file ≡ Some (rejected rejection) =
-    ap (λ (f : Option (List ℕ)). on_file f (old.content.file q)) text.1 ∙ ap (λ (r : Result Lists Rejection). on_lists r (old.content.file q)) text.2 in
-    (rejected rejection, is, answered, reads_instance told old new (rejected rejection) start read.begun (passed_as rejection limit.InstanceBytes (new.content.rest Instance) (read.out t)));
+      let text = read.due t in
+      let is : verdict_of (Some (audit i q)) old.content.file ≡ Some (rejected rejection) =
+      ap (λ (f : Option (List ℕ)). on_file f (old.content.file q)) text.1 ∙ ap (λ (r : Result Lists Rejection). on_lists r (old.content.file q)) text.2 in
+      (rejected rejection, is, answered, reads_instance told old new (rejected rejection) start read.begun (passed_as rejection limit.InstanceBytes (new.content.rest Instance) (read.out t)));
 }
 
 pub gives_up_after : (told : Type 0) (ended : Ended) (old mid new : World) → OnlyRead told old mid → GivesUp told ended mid new → GivesUp told ended old new

@@ -1,21 +1,20 @@
 -- What the end of a run says of the code that it answers.
-use Rattle.std.proofs.Common.{◌≡◌, ◌⊎◌, ◌<◌, ◌≤◌, ℕ, Bool, true, false, not, ◌||◌, ◌==◌, nat_lt, List, Option, Some, None, Result, Ok, Err, length, refl, sym, ◌∙◌, ap, subst, arith, inl, inr, option_map, cond}
+use Rattle.std.proofs.Common.{◌≡◌, ◌⊎◌, ℕ, Bool, true, false, ◌==◌, nat_lt, List, Option, Some, None, Result, Ok, Err, length, refl, sym, ◌∙◌, ap, inl, inr, option_map, cond}
 use Rattle.hrt_base.specs.declared.port.Port.{Port}
 use Rattle.hrt_base.specs.declared.port.Port.TheVariants.{Report}
 use Rattle.hrt_base.specs.declared.host.Begun.TheVariants.{Writing}
 use Rattle.hrt_base.specs.Calls.{Rose}
-use Rattle.hrt_base.specs.World.{World, Content}
+use Rattle.hrt_base.specs.World.{World}
 use Rattle.rank_tables.specs.Instance.{Lists, pair_count}
 use Rattle.hrt_text.specs.Text.{rows}
 use Rattle.hrt_reader.specs.Refusal.{Refusal, Spells, refusal, lists_of_rows}
-use Rattle.hrt_cli.specs.declared.limit.Limit.{Limit}
 use Rattle.hrt_cli.specs.declared.limit.Limit.TheVariants.{Residents, Hospitals, TriedPairs, InstanceBytes}
 use Rattle.hrt_cli.specs.declared.status.Status.{Status}
 use Rattle.hrt_cli.specs.declared.status.Status.TheVariants.{Done, Misused, InstanceRefused, ReadFault, WriteFault, NoMemory, LimitExceeded, AuditNo, PairsRefused}
 use Rattle.hrt_cli.specs.Limits.{most}
-use Rattle.hrt_cli.specs.Reports.{IsReport, IsSolveReport}
+use Rattle.hrt_cli.specs.Reports.{IsReport}
 use Rattle.hrt_cli.specs.Requests.{Request, solve}
-use Rattle.hrt_cli.specs.Runs.{EndsAs, IsCutShort, IsDecided, IsDue, IsReported, Reported, KeepsFiles, PrintsBest, SendsNothing, has_report, is_code}
+use Rattle.hrt_cli.specs.Runs.{EndsAs, IsCutShort, IsDecided, IsDue, Reported, KeepsFiles, PrintsBest, SendsNothing, has_report, is_code}
 use Rattle.hrt_cli.specs.Statuses.{code_of}
 use Rattle.hrt_cli.specs.Verdicts.{Rejection, Verdict, misused, refused, exceeded, pairs_refused, rejected, solved, audited, due as due_for, lists_in, solve_verdict, status_of, unless_refused, verdict_of, within}
 
@@ -180,6 +179,7 @@ spelled bytes found e = by (nat_lt (most InstanceBytes) (length bytes)) e
     unrefused h =
         let none = none_refused (refusal (rows bytes)) (lists_of_rows (rows bytes)) found h in
         record { accepted = none; says = ok_is (lists_of_rows (rows bytes)) found (ap (λ (r : Option Refusal). unless_refused r (lists_of_rows (rows bytes))) (sym none) ∙ h) }
+
     by : (b : Bool) → cond {A = Result Lists Rejection} b (Err (exceeded InstanceBytes)) (unless_refused (refusal (rows bytes)) (lists_of_rows (rows bytes))) ≡ Ok found → Spells bytes found
     by true h = absurd (cc)
     by false h = unrefused h

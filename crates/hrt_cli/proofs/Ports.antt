@@ -1,5 +1,5 @@
 -- What stands on the ports while files are read.
-use Rattle.std.proofs.Common.{◌≡◌, ◌↔◌, ◌==◌, ℕ, Bool, true, false, if◌then◌else◌, refl, sym, ◌∙◌, ap, inl, inr, arith, subst}
+use Rattle.std.proofs.Common.{◌≡◌, ◌↔◌, sym, ◌∙◌, ap, inl, inr, arith}
 use Rattle.std.proofs.lemmas.Bool.{cases_eq}
 use Rattle.std.proofs.lemmas.Bool.Decides.{nat_tests}
 use Rattle.hrt_base.specs.declared.port.Port.{Port}
@@ -21,8 +21,8 @@ put_elsewhere port x f p other = grind (arith, nat_tests)
 pub reading_writers : (port : Port) (f : Port → Begun) → f port ≡ Idle → (p : Port) → (put port Reading f p ≡ Writing) ↔ (f p ≡ Writing)
 reading_writers port f idle p = elim (cases_eq (port_no p) (port_no port)) [
   | inl same ↦
-    let e : p ≡ port = port_no-injective p port same in
-    let here : put port Reading f p ≡ Reading = ap (put port Reading f) e ∙ put_here port Reading f in
-    (λ w. absurd (not_reading _ here w), λ w. absurd (not_idle (f p) (ap f e ∙ idle) w))
+      let e : p ≡ port = port_no-injective p port same in
+      let here : put port Reading f p ≡ Reading = ap (put port Reading f) e ∙ put_here port Reading f in
+      (λ w. absurd (not_reading _ here w), λ w. absurd (not_idle (f p) (ap f e ∙ idle) w))
   | inr other ↦ let same : put port Reading f p ≡ f p = put_elsewhere port Reading f p other in (λ w. sym same ∙ w, λ w. same ∙ w)
 ]

@@ -1,24 +1,23 @@
 -- From what a run did to how it ended.
-use Rattle.std.proofs.Common.{◌≡◌, ◌≢◌, ◌↔◌, ◌≤◌, ◌==◌, ℕ, List, [], ◌++◌, ◌⊎◌, length, take, Bool, true, false, if◌then◌else◌, Option, Some, None, refl, sym, ◌∙◌, ap, subst, arith, inl, inr, IsTrue, codes}
+use Rattle.std.proofs.Common.{◌≡◌, ℕ, List, [], ◌++◌, ◌⊎◌, take, Option, None, refl, sym, ◌∙◌, ap, subst, arith, inl, inr, IsTrue, codes}
 use Rattle.std.proofs.lemmas.Bool.{cases_eq}
 use Rattle.std.proofs.lemmas.Bool.Decides.{nat_tests}
 use Rattle.hrt_base.specs.declared.port.Port.{Port}
-use Rattle.hrt_base.specs.declared.port.Port.TheVariants.{Instance, Pairs, Model, Proof, Report, ModelTwo, ProofTwo}
+use Rattle.hrt_base.specs.declared.port.Port.TheVariants.{Report}
 use Rattle.hrt_base.specs.declared.host.Begun.{Begun}
 use Rattle.hrt_base.specs.declared.host.Begun.TheVariants.{Idle, Reading, Writing}
-use Rattle.hrt_base.specs.Calls.{AtStart, Sent, SentPart, Rose}
-use Rattle.hrt_base.specs.World.{World, Content, port_no, put, appended, sealed, store}
+use Rattle.hrt_base.specs.Calls.{AtStart, Sent, SentPart}
+use Rattle.hrt_base.specs.World.{World, Content, port_no, put, store}
 use Rattle.hrt_base.proofs.Pieces.{port_no-injective, put_here}
 use Rattle.hrt_cli.specs.declared.answer.Answer.{Answer}
 use Rattle.hrt_cli.specs.declared.status.Status.{Status}
 use Rattle.hrt_cli.specs.declared.status.Status.TheVariants.{Done, Misused, InstanceRefused, ReadFault, WriteFault, NoMemory, LimitExceeded, AuditNo, PairsRefused}
-use Rattle.hrt_cli.specs.Answers.{IsAnswer, IsAnswered, IsReadOut, PassedAt, is_on_files}
-use Rattle.hrt_cli.specs.Inputs.{OnlyRead, but_for_rest}
-use Rattle.hrt_cli.specs.Loading.{FailedToRead}
+use Rattle.hrt_cli.specs.Answers.{IsAnswered, IsReadOut, PassedAt, is_on_files}
+use Rattle.hrt_cli.specs.Inputs.{OnlyRead}
 use Rattle.hrt_cli.specs.Reports.{IsReport, line}
 use Rattle.hrt_cli.specs.Requests.{Request}
-use Rattle.hrt_cli.specs.Runs.{IsSentWhole, ReportsAlone, SendsNothing, IsReported, IsCutShort, Reported, CutShort, Unread, OutOfMemory, EndsAs}
-use Rattle.hrt_cli.specs.Verdicts.{Verdict, verdict_of, status_of, misused}
+use Rattle.hrt_cli.specs.Runs.{IsSentWhole, ReportsAlone, SendsNothing, IsReported, Reported, CutShort, EndsAs}
+use Rattle.hrt_cli.specs.Verdicts.{Verdict, misused}
 
 -- ---- ports
 
@@ -40,11 +39,11 @@ closed_after : (told : Type 0) (text : List ℕ) (old mid new : World) → AtSta
     → (p : Port) → new.begun p ≡ Writing → ⊥
 closed_after told text old mid new start read sent p writing = elim (cases_eq (port_no p) (port_no Report)) [
   | inl same ↦
-    let e : p ≡ Report = port_no-injective p Report same in
-    idle_not_writing (new.begun p) (ap (λ (f : Port → Begun). f p) sent.begun ∙ ap (put Report Idle mid.begun) e ∙ put_here Report Idle mid.begun) writing
+      let e : p ≡ Report = port_no-injective p Report same in
+      idle_not_writing (new.begun p) (ap (λ (f : Port → Begun). f p) sent.begun ∙ ap (put Report Idle mid.begun) e ∙ put_here Report Idle mid.begun) writing
   | inr other ↦
-    let here : mid.begun p ≡ Writing = sym (ap (λ (f : Port → Begun). f p) sent.begun ∙ put_elsewhere Report Idle mid.begun p other) ∙ writing in
-    other (writes_report told old start p ((read.writers p).0 here))
+      let here : mid.begun p ≡ Writing = sym (ap (λ (f : Port → Begun). f p) sent.begun ∙ put_elsewhere Report Idle mid.begun p other) ∙ writing in
+      other (writes_report told old start p ((read.writers p).0 here))
 ]
 
 not_reading : (b : Begun) → b ≡ Idle → b ≡ Reading → ⊥
@@ -57,8 +56,8 @@ writing_not_reading b writing reading = let e : Writing ≡ Reading = sym writin
 pub reads_nothing : (told : Type 0) (w : World) → AtStart told w → (p : Port) → w.begun p ≡ Reading → ⊥
 reads_nothing told w start p reading = elim (cases_eq (port_no p) (port_no Report)) [
   | inl same ↦
-    let e : p ≡ Report = port_no-injective p Report same in
-    writing_not_reading (w.begun p) (ap (λ (f : Port → Begun). f p) start.begun ∙ ap (put Report Writing (λ q. Idle)) e) reading
+      let e : p ≡ Report = port_no-injective p Report same in
+      writing_not_reading (w.begun p) (ap (λ (f : Port → Begun). f p) start.begun ∙ ap (put Report Writing (λ q. Idle)) e) reading
   | inr other ↦ not_reading (w.begun p) (ap (λ (f : Port → Begun). f p) start.begun ∙ put_elsewhere Report Writing (λ q. Idle) p other) reading
 ]
 
@@ -103,13 +102,13 @@ whole_alone : (told : Type 0) (text : List ℕ) (old mid new : World) → AtStar
     → ReportsAlone old.content new.content
 whole_alone told text old mid new start read sent t = record {
   sent = λ p other.
-    ap (λ (c : Content). c.sent p) (sent.content t)
-    ∙ put_elsewhere Report (mid.content.sent Report ++ text) mid.content.sent p other
-    ∙ sent_before told old mid start read t p;
+      ap (λ (c : Content). c.sent p) (sent.content t)
+      ∙ put_elsewhere Report (mid.content.sent Report ++ text) mid.content.sent p other
+      ∙ sent_before told old mid start read t p;
   files = λ name.
-    ap (λ (c : Content). c.file name) (sent.content t)
-    ∙ ap (λ (n : List ℕ). store n (put Report (mid.content.sent Report ++ text) mid.content.sent Report) mid.content.file name) (name_before told old mid start read t)
-    ∙ file_before told old mid read t name;
+      ap (λ (c : Content). c.file name) (sent.content t)
+      ∙ ap (λ (n : List ℕ). store n (put Report (mid.content.sent Report ++ text) mid.content.sent Report) mid.content.file name) (name_before told old mid start read t)
+      ∙ file_before told old mid read t name;
 }
 
 whole_text : (told : Type 0) (text : List ℕ) (old mid new : World) → AtStart told old → OnlyRead told old mid → IsSentWhole told text mid new → told
@@ -120,11 +119,11 @@ whole_text told text old mid new start read sent t =
 whole_read_out : (told : Type 0) (text : List ℕ) (mid new : World) (v : Verdict) → IsSentWhole told text mid new → told → IsReadOut v mid → IsReadOut v new
 whole_read_out told text mid new v sent t out p reading = elim (cases_eq (port_no p) (port_no Report)) [
   | inl same ↦
-    let e : p ≡ Report = port_no-injective p Report same in
-    absurd (not_reading (new.begun p) (ap (λ (f : Port → Begun). f p) sent.begun ∙ ap (put Report Idle mid.begun) e ∙ put_here Report Idle mid.begun) reading)
+      let e : p ≡ Report = port_no-injective p Report same in
+      absurd (not_reading (new.begun p) (ap (λ (f : Port → Begun). f p) sent.begun ∙ ap (put Report Idle mid.begun) e ∙ put_here Report Idle mid.begun) reading)
   | inr other ↦
-    let here : mid.begun p ≡ Reading = sym (ap (λ (f : Port → Begun). f p) sent.begun ∙ put_elsewhere Report Idle mid.begun p other) ∙ reading in
-    subst (λ (l : List ℕ). (l ≡ []) ⊎ PassedAt v p) (sym (ap (λ (c : Content). c.rest p) (sent.content t))) (out p here)
+      let here : mid.begun p ≡ Reading = sym (ap (λ (f : Port → Begun). f p) sent.begun ∙ put_elsewhere Report Idle mid.begun p other) ∙ reading in
+      subst (λ (l : List ℕ). (l ≡ []) ⊎ PassedAt v p) (sym (ap (λ (c : Content). c.rest p) (sent.content t))) (out p here)
 ]
 
 pub whole_reported : (told : Type 0) (request : Option Request) (answer : Answer) (old mid new : World) → AtStart told old → IsAnswered told request answer old mid
@@ -147,9 +146,9 @@ part_alone : (told : Type 0) (text : List ℕ) (old mid new : World) → AtStart
     → ReportsAlone old.content new.content
 part_alone told text old mid new start read sent t = record {
   sent = λ p other.
-    ap (λ (c : Content). c.sent p) (sent.content t)
-    ∙ put_elsewhere Report (mid.content.sent Report ++ text) mid.content.sent p other
-    ∙ sent_before told old mid start read t p;
+      ap (λ (c : Content). c.sent p) (sent.content t)
+      ∙ put_elsewhere Report (mid.content.sent Report ++ text) mid.content.sent p other
+      ∙ sent_before told old mid start read t p;
   files = λ name. ap (λ (c : Content). c.file name) (sent.content t) ∙ file_before told old mid read t name;
 }
 

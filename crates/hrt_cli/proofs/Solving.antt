@@ -1,17 +1,16 @@
 -- What the command that finds a largest weakly stable matching comes to.
-use Rattle.std.proofs.Common.{◌≡◌, ℕ, List, [], Option, Some, Result, Ok, Err, ap, ◌∙◌, sym, subst, ◌⊎◌, inl, inr, option_map}
+use Rattle.std.proofs.Common.{◌≡◌, ℕ, List, [], Some, Result, Ok, Err, ap, ◌∙◌, sym, subst, ◌⊎◌, inl, inr, option_map}
 use Rattle.std.proofs.lemmas.Bool.{cases_eq}
 use Rattle.hrt_base.specs.declared.port.Port.{Port}
 use Rattle.hrt_base.specs.declared.port.Port.TheVariants.{Instance}
 use Rattle.hrt_base.specs.declared.host.Begun.{Begun}
 use Rattle.hrt_base.specs.declared.host.Begun.TheVariants.{Reading}
 use Rattle.hrt_base.specs.Calls.{AtStart}
-use Rattle.hrt_base.specs.World.{World, Content, put, with_rest, port_no}
-use Rattle.hrt_base.proofs.Pieces.{port_no-injective, put_here}
+use Rattle.hrt_base.specs.World.{World, put, port_no}
+use Rattle.hrt_base.proofs.Pieces.{port_no-injective}
 use Rattle.rank_tables.specs.Instance.{Lists}
 use Rattle.hrt_cli.specs.declared.limit.Limit.TheVariants.{TriedPairs, InstanceBytes}
 use Rattle.hrt_cli.specs.Answers.{IsReadOut, PassedAt}
-use Rattle.hrt_cli.specs.Inputs.{OnlyRead}
 use Rattle.hrt_cli.specs.Requests.{solve}
 use Rattle.hrt_cli.specs.Verdicts.{Files, Rejection, Verdict, exceeded, rejected, solved, due, lists_in, solve_verdict, verdict_of, within}
 use Rattle.hrt_cli.proofs.Runs.{put_elsewhere, reads_nothing}
@@ -31,6 +30,6 @@ pub reads_instance : (told : Type 0) (old mid : World) (verdict : Verdict) → A
 reads_instance told old mid verdict start begun out p reading = elim (cases_eq (port_no p) (port_no Instance)) [
   | inl same ↦ let e : p ≡ Instance = port_no-injective p Instance same in subst (λ (q : Port). (mid.content.rest q ≡ []) ⊎ PassedAt verdict q) (sym e) out
   | inr other ↦
-    let here : old.begun p ≡ Reading = sym (ap (λ (f : Port → Begun). f p) begun ∙ put_elsewhere Instance Reading old.begun p other) ∙ reading in
-    absurd (reads_nothing told old start p here)
+      let here : old.begun p ≡ Reading = sym (ap (λ (f : Port → Begun). f p) begun ∙ put_elsewhere Instance Reading old.begun p other) ∙ reading in
+      absurd (reads_nothing told old start p here)
 ]

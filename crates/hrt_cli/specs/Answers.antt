@@ -1,9 +1,8 @@
 -- What a run answers for a verdict.
-use Rattle.std.specs.Prelude.{◌≡◌, ◌⊎◌, ℕ, Bool, true, false, IsTrue, List, [], Option, Some}
+use Rattle.std.specs.Prelude.{◌≡◌, ◌⊎◌, Bool, true, false, IsTrue, [], Option, Some}
 use Rattle.hrt_base.specs.declared.port.Port.{Port}
 use Rattle.hrt_base.specs.declared.port.Port.TheVariants.{Instance, Pairs, Model, Proof, Report, ModelTwo, ProofTwo}
 use Rattle.hrt_base.specs.declared.host.Begun.TheVariants.{Reading}
-use Rattle.hrt_base.specs.Calls.{Rose}
 use Rattle.hrt_base.specs.World.{World}
 use Rattle.hrt_reader.specs.Kinds.{number}
 use Rattle.hrt_reader.specs.PairsAnswer.{pairs_number}

@@ -5,7 +5,6 @@ use Rattle.rank_tables.specs.Instance.{Lists, pair_count, pair_at, one_sided}
 use Rattle.rank_tables.specs.WellFormed.{names_of_residents, names_of_hospitals}
 use Rattle.rank_tables.specs.Stability.{Best}
 use Rattle.rank_tables.specs.Tables.{IsPairNo}
-use Rattle.hrt_reader.specs.Refusal.{Refusal}
 use Rattle.stability_audit.specs.declared.verdict.Verdict.{Verdict as Audit}
 use Rattle.stability_audit.specs.declared.verdict.Verdict.TheVariants.{Stable, ResidentTwice, OverCapacity, Blocked}
 use Rattle.stability_audit.specs.Verdict.{verdict_of as audit_of}

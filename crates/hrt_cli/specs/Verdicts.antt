@@ -1,5 +1,5 @@
 -- What a run comes to, as far as the words and the files decide it.
-use Rattle.std.specs.Prelude.{◌≡◌, ℕ, ◌==◌, nat_lt, if◌then◌else◌, List, length, Option, Some, None, Result, Ok, Err, option_map}
+use Rattle.std.specs.Prelude.{ℕ, ◌==◌, nat_lt, if◌then◌else◌, List, length, Option, Some, None, Result, Ok, Err, option_map}
 use Rattle.rank_tables.specs.Instance.{Lists, pair_count}
 use Rattle.rank_tables.specs.Stability.{is_weakly_stable}
 use Rattle.hrt_text.specs.Text.{rows}

@@ -52,10 +52,7 @@ fn two_files<'a>(files: &'a [String]) -> Option<(&'a str, &'a str)>
         [first, second]
             if is_file_name(first.as_str())
                 && is_file_name(second.as_str())
-                && first.as_str() != second.as_str() =>
-        {
-            Some((first.as_str(), second.as_str()))
-        }
+                && first.as_str() != second.as_str() => { Some((first.as_str(), second.as_str())) }
         _ => None,
     }
 }

@@ -1,4 +1,4 @@
-use Rattle.std.proofs.Common.{rules, Option, List, ℕ, refl, subst}
+use Rattle.std.proofs.Common.{Option, List, ℕ, refl, subst}
 use Rattle.hrt_base.specs.declared.port.Port.TheVariants.{Report}
 use Rattle.hrt_base.specs.Calls.{SentPart}
 use Rattle.hrt_cli.specs.Requests.{Request}

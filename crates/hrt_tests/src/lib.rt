@@ -1,0 +1,13 @@
+//! Tests that cross crates: whole runs over a host in memory.
+#![tactic(auto)]
+
+#[cfg(test)]
+mod audits;
+#[cfg(test)]
+mod faults;
+#[cfg(test)]
+mod runs;
+#[cfg(test)]
+mod solves;
+#[cfg(test)]
+mod texts;

@@ -1,5 +1,5 @@
 -- The definitions of a text of pairs, computed on texts worked by hand. The instance is `tied`: its pairs are a x, a y and b x.
-use Rattle.std.specs.Prelude.{◌≡◌, ℕ, List, [], ◌∷◌, ◌++◌, Option, Some, None, refl, codes}
+use Rattle.std.specs.Prelude.{◌≡◌, ℕ, List, [], ◌∷◌, ◌++◌, Option, refl, codes}
 use Rattle.hrt_text.specs.Text.{rows}
 use Rattle.hrt_reader.specs.Refusal.{Refusal}
 use Rattle.hrt_reader.specs.PairsText.{pairs_refusal, pairs_spelling, SpellsPairs}

@@ -15,4 +15,5 @@ pub mod TokenReading
 pub mod Unknowns
 pub mod WellFormed
 pub mod Worked
+pub mod WorkedPairs
 pub mod WrittenLines

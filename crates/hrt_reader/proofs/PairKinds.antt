@@ -1,8 +1,8 @@
 -- The kinds of a line of a text of pairs, and the least line that has one.
-use Rattle.std.proofs.Common.{◌≡◌, ℕ, zero, suc, ◌+◌, ◌<◌, ◌≤◌, Bool, true, false, not, ◌&&◌, ◌||◌, cond, eqb, All, List, [], ◌∷◌, ◌++◌, length, map, take, drop, Option, Some, None, refl, sym, ap, subst, ◌∙◌, arith}
-use Rattle.std.specs.Prelude.{filter_map, IfNone}
+use Rattle.std.proofs.Common.{◌≡◌, ℕ, suc, ◌+◌, ◌<◌, Bool, true, false, not, ◌&&◌, ◌||◌, cond, eqb, All, List, [], ◌∷◌, ◌++◌, length, take, drop, Option, Some, None, refl, sym, ap, subst, ◌∙◌, arith}
+use Rattle.std.specs.Prelude.{IfNone}
 use Rattle.std.specs.List.{list_any}
-use Rattle.std.proofs.lemmas.Bool.{and_parts, and_from, or_from, or_parts, not_from_true, not_from_false, cond-true, cond-false}
+use Rattle.std.proofs.lemmas.Bool.{and_parts, and_from, or_from, or_parts, not_from_false}
 use Rattle.std.proofs.lemmas.Bool.Decides.{Decides-eqb, same_from_decides}
 use Rattle.std.proofs.lemmas.List.{map-append}
 use Rattle.std.proofs.lemmas.List.Elements.{filter_map-append, All-push}
@@ -13,8 +13,7 @@ use Rattle.rank_tables.specs.Numbers.{is_in, is_distinct}
 use Rattle.rank_tables.specs.Tables.{IsPairNo, numbers_of}
 use Rattle.hrt_text.specs.Text.{Row}
 use Rattle.hrt_text.proofs.Among.{not_true}
-use Rattle.hrt_reader.specs.Refusal.{Refusal, first_line}
-use Rattle.hrt_reader.specs.PairsText.{PairForm, blank, pair, other, pair_form, pair_named, pair_by, pairs_of_rows, unknown_in_pair, pair_kind_in, pairs_refusal}
+use Rattle.hrt_reader.specs.PairsText.{blank, pair, other, pair_form, pair_named, pair_by, pairs_of_rows, unknown_in_pair, pair_kind_in, pairs_refusal}
 use Rattle.hrt_reader.specs.PairsAnswer.{pair_kind_there}
 use Rattle.hrt_reader.proofs.Places.{at, no_line_before, no_line_at_all, get_at, take_next, within_at}
 

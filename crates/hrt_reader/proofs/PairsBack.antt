@@ -1,5 +1,5 @@
 -- The canonical spelling of distinct pairs has no refusal, and spells these pairs.
-use Rattle.std.proofs.Common.{◌≡◌, ℕ, zero, suc, ◌+◌, ◌<◌, Bool, true, false, not, ◌&&◌, eqb, All, List, [], ◌∷◌, ◌++◌, length, map, get_or, take, drop, Option, Some, None, refl, sym, ap, ap₂, subst, ◌∙◌, append_assoc, arith}
+use Rattle.std.proofs.Common.{◌≡◌, ℕ, zero, suc, ◌+◌, ◌<◌, true, false, not, eqb, All, List, [], ◌∷◌, ◌++◌, length, map, get_or, take, drop, Option, Some, None, refl, sym, ap, ap₂, subst, ◌∙◌, append_assoc, arith}
 use Rattle.std.specs.Prelude.{codes, flat_map, is_some}
 use Rattle.std.specs.List.{AllByRecursion}
 use Rattle.std.proofs.lemmas.Bool.{and_parts, and_from, or_parts, or_from}
@@ -18,9 +18,8 @@ use Rattle.rank_tables.proofs.Unique.{pairs-apart, pair_no-acceptable}
 use Rattle.hrt_text.specs.Text.{Token, word, tokens, Row, rows}
 use Rattle.hrt_text.proofs.Among.{not_true}
 use Rattle.hrt_text.proofs.Words.{IsWord, tokens_word}
-use Rattle.hrt_reader.specs.Refusal.{number_in}
 use Rattle.hrt_reader.specs.Spelling.{name_at}
-use Rattle.hrt_reader.specs.PairsText.{pair, pair_form, pair_named, pair_by, pairs_of_rows, pairs_refusal, unknown_in_pair, pair_kind_in, pair_text, pairs_spelling, SpellsPairs}
+use Rattle.hrt_reader.specs.PairsText.{pair, pair_named, pairs_of_rows, pairs_refusal, unknown_in_pair, pair_kind_in, pair_text, pairs_spelling, SpellsPairs}
 use Rattle.hrt_reader.proofs.Numbers.{number_name, name_among}
 use Rattle.hrt_reader.proofs.PairKinds.{AreFine, kind_pair, pair_in_place, pairs_accepted, both_found, eqb-turned}
 use Rattle.hrt_reader.proofs.SpelledItems.{word_at}

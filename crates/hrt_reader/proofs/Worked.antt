@@ -7,13 +7,13 @@ use Rattle.hrt_text.specs.Grammar.{form_of}
 use Rattle.hrt_reader.specs.Refusal.{refusal, lists_of_rows, Refusal, Spells, has_kind, too_many_residents, too_many_hospitals}
 use Rattle.hrt_reader.specs.Spelling.{spelling}
 
-abbrev text : List (List ℕ) → List ℕ
+abbrev pub text : List (List ℕ) → List ℕ
 text ls = flat_map (λ l. l ++ 10 ∷ []) ls
 
-abbrev at : ℕ → ℕ → Option Refusal
+abbrev pub at : ℕ → ℕ → Option Refusal
 at k n = Some (record { line = k; kind = n })
 
-abbrev tied : Lists
+abbrev pub tied : Lists
 tied = record {
   residents = record { name = codes "a"; groups = (0 ∷ []) ∷ (1 ∷ []) ∷ [] } ∷ record { name = codes "b"; groups = (0 ∷ []) ∷ [] } ∷ [];
   hospitals = record { name = codes "x"; capacity = 1; groups = (0 ∷ 1 ∷ []) ∷ [] } ∷ record { name = codes "y"; capacity = 1; groups = (0 ∷ []) ∷ [] } ∷ [];
@@ -143,3 +143,44 @@ too_many-hospitals = refl
 
 pub not_too_many : too_many_residents (replicate 19999 (tokens (codes "resident a:"))) (form_of (tokens (codes "resident b:"))) ≡ false
 not_too_many = refl
+
+-- a comment sign ends a word, also in the middle of it
+pub sign_in_word : refusal (rows (text (codes "hrt 1" ∷ codes "resident a#b: x" ∷ codes "end" ∷ []))) ≡ at 2 2
+sign_in_word = refl
+
+-- a return that isn't the last byte of its line is a byte of a word
+pub return_in_name : refusal (rows (text (codes "hrt 1" ∷ (codes "resident a" ++ 13 ∷ codes ":") ∷ codes "end" ∷ []))) ≡ at 2 3
+return_in_name = refl
+
+pub two_returns : refusal (rows (text ((codes "hrt 1" ++ 13 ∷ 13 ∷ []) ∷ codes "end" ∷ []))) ≡ at 1 1
+two_returns = refl
+
+pub return_in_line : refusal (rows (text (codes "hrt 1" ∷ (codes "end " ++ 13 ∷ codes " ") ∷ []))) ≡ at 2 2
+return_in_line = refl
+
+-- a capacity with a zero before it is a spelling, but not the canonical one
+pub zero_before : refusal (rows (text (codes "hrt 1" ∷ codes "hospital x 01:" ∷ codes "end" ∷ []))) ≡ None
+zero_before = refl
+
+-- words are looked at also where the items are no list
+pub twice_in_no_list : refusal (rows (text (codes "hrt 1" ∷ codes "resident a: x x (" ∷ []))) ≡ at 2 7
+twice_in_no_list = refl
+
+pub no_name_in_no_list : refusal (rows (text (codes "hrt 1" ∷ (codes "resident a: " ++ 1 ∷ codes " (") ∷ []))) ≡ at 2 3
+no_name_in_no_list = refl
+
+pub no_end_blank : refusal (rows (text (codes "hrt 1" ∷ codes "" ∷ []))) ≡ at 2 9
+no_end_blank = refl
+
+pub blank_after_end : refusal (rows (text (codes "hrt 1" ∷ codes "end" ∷ codes "# note" ∷ codes "" ∷ []))) ≡ None
+blank_after_end = refl
+
+pub end_twice : refusal (rows (text (codes "hrt 1" ∷ codes "end" ∷ codes "end" ∷ []))) ≡ at 3 10
+end_twice = refl
+
+pub header_twice : refusal (rows (text (codes "hrt 1" ∷ codes "hrt 1" ∷ codes "end" ∷ []))) ≡ at 2 2
+header_twice = refl
+
+-- names of the other side are not declared on this one
+pub other_side_unknown : refusal (rows (text (codes "hrt 1" ∷ codes "resident a: a" ∷ codes "end" ∷ []))) ≡ at 2 6
+other_side_unknown = refl

@@ -1,5 +1,5 @@
 -- The canonical spelling, as its pieces one after the other; the numbers in the lists are numbers of names.
-use Rattle.std.proofs.Common.{◌≡◌, ℕ, zero, suc, ◌+◌, ◌-◌, ◌<◌, ◌≤◌, Bool, true, ltb, List, [], ◌∷◌, ◌++◌, length, map, get_or, take, drop, Option, Some, refl, sym, ap, ◌∙◌, append_assoc, arith, IsTrue}
+use Rattle.std.proofs.Common.{◌≡◌, ℕ, zero, suc, ◌-◌, ◌<◌, ◌≤◌, true, ltb, List, [], ◌∷◌, ◌++◌, length, map, get_or, take, drop, Option, Some, refl, sym, ap, ◌∙◌, append_assoc, arith, IsTrue}
 use Rattle.std.specs.Prelude.{flat_map, decimal, codes, slice_get, unwrap_or, option_map}
 use Rattle.std.specs.List.{concat, list_all, join_with_byte}
 use Rattle.std.proofs.lemmas.Bool.{and_parts, ltb-true}
@@ -11,7 +11,7 @@ use Rattle.rank_tables.specs.WellFormed.{names_of_residents, names_of_hospitals,
 use Rattle.rank_tables.specs.Numbers.{is_distinct}
 use Rattle.rank_tables.specs.declared.draft.DraftResident.{DraftResident}
 use Rattle.rank_tables.specs.declared.draft.DraftHospital.{DraftHospital}
-use Rattle.hrt_reader.specs.Spelling.{name_at, group_text, items_text, resident_text, hospital_text, spelled_lines, spelling}
+use Rattle.hrt_reader.specs.Spelling.{name_at, group_text, items_text, resident_text, hospital_text, spelling}
 use Rattle.hrt_reader.specs.Written.{is_number, spaced, line_of_resident, line_of_hospital}
 
 -- ---- groups

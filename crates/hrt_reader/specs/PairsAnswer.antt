@@ -1,5 +1,5 @@
 -- What `read_pairs` answers.
-use Rattle.std.specs.Prelude.{◌≡◌, ℕ, List, [], ◌∷◌, find, Option, Some, None}
+use Rattle.std.specs.Prelude.{◌≡◌, ℕ, List, [], ◌∷◌, find, Option, Some}
 use Rattle.rank_tables.specs.Instance.{Lists}
 use Rattle.hrt_text.specs.Text.{Row}
 use Rattle.hrt_reader.specs.Refusal.{Refusal}

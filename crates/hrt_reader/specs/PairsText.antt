@@ -2,7 +2,7 @@
 -- the canonical spelling. The kinds by their numbers: 1 the line isn't of the form, 2 a word is no declared name, 3 the two
 -- names are no acceptable pair, 4 an earlier line has the pair.
 use Rattle.std.specs.Prelude.{◌≡◌, ℕ, zero, suc, Bool, true, false, not, ◌&&◌, ◌==◌, if◌then◌else◌, List, [], ◌∷◌, ◌++◌, length, take, filter_map, flat_map, find, slice_get, Option, Some, None, is_none, unwrap_or, option_map, bytes_eq, codes}
-use Rattle.hrt_text.specs.Text.{Token, colon, opening, closing, word, Row, rows}
+use Rattle.hrt_text.specs.Text.{Token, word, Row, rows}
 use Rattle.rank_tables.specs.Instance.{Lists, pair_at, pair_no}
 use Rattle.rank_tables.specs.Names.{is_among}
 use Rattle.rank_tables.specs.Numbers.{is_in}

@@ -1,4 +1,8 @@
 -- Which kinds stand in which line of an instance's text, the refusal of a text, and the lists that a text spells.
+-- The kinds by their numbers: 1 no header, 2 the line isn't of the form, 3 a word in a name's place is no name, 4 the capacity
+-- is none, 5 an earlier line declares the name on the same side, 6 a list names what no line declares, 7 a list has one name
+-- twice, 8 the items are no groups, 9 the text ends without `end`, 10 something stands after `end`, 11 and 12 one resident, or
+-- one hospital, more than there may be.
 use Rattle.std.specs.Prelude.{ℕ, zero, suc, ◌+◌, max, Bool, true, false, not, ◌&&◌, ◌==◌, if◌then◌else◌, List, [], ◌∷◌, ◌++◌, length, map, take, drop, filter_map, find, slice_get, Option, Some, None, is_none, unwrap_or, option_map, bytes_eq, ◌≡◌}
 use Rattle.std.specs.List.{list_any, list_all, position_or_len}
 use Rattle.hrt_text.specs.Text.{Token, Row, rows}

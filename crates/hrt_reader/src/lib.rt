@@ -1,4 +1,4 @@
-//! The text of an instance.
+//! The texts of instances and of pairs: every spelling is read, and the canonical one is written.
 #![tactic(auto)]
 
 mod declarations;
@@ -15,6 +15,8 @@ mod pieces;
 mod reading;
 mod refusals;
 mod stages;
+#[cfg(test)]
+mod tests;
 mod writing;
 
 pub use law::{pairs_spelling_is_read_back, spelling_is_one_to_one, spelling_is_read_back};

@@ -20,7 +20,10 @@ use rank_tables::Instance;
 use std::alloc::{AllocError, Global};
 
 // The names of the residents, by number.
-fn resident_names<'a>(alloc: Global, instance: &'a Instance) -> Result<IndexSet<&'a [u8]>, AllocError>
+fn resident_names<'a>(
+    alloc: Global,
+    instance: &'a Instance,
+) -> Result<IndexSet<&'a [u8]>, AllocError>
     ensures names { IfOk result (λ names. texts names.keys ≡ names_of_residents instance.entry.now) }
     ensures well_formed { IsWellFormed instance.entry.now }
 {
@@ -32,7 +35,10 @@ fn resident_names<'a>(alloc: Global, instance: &'a Instance) -> Result<IndexSet<
 }
 
 // The names of the hospitals, by number.
-fn hospital_names<'a>(alloc: Global, instance: &'a Instance) -> Result<IndexSet<&'a [u8]>, AllocError>
+fn hospital_names<'a>(
+    alloc: Global,
+    instance: &'a Instance,
+) -> Result<IndexSet<&'a [u8]>, AllocError>
     ensures { IfOk result (λ names. texts names.keys ≡ names_of_hospitals instance.entry.now) }
 {
     let mut names = IndexSet::new(alloc);
@@ -73,12 +79,9 @@ fn pairs_of_lines(
     Ok(pairs)
 }
 
-/// Reads a text of pairs of the instance, in the order of its lines. Line feeds are few enough for a line number to fit.
-pub fn read_pairs(
-    alloc: Global,
-    bytes: &[u8],
-    inst: &Instance,
-) -> Result<Vec<PairNo>, PairsRefusal>
+/// Reads pairs of the instance in any spelling, in the order of their lines. The text has few enough line feeds for each
+/// line's number to fit.
+pub fn read_pairs(alloc: Global, bytes: &[u8], inst: &Instance) -> Result<Vec<PairNo>, PairsRefusal>
     requires { count_by (λ b. b == 10) bytes.now ≤ 4294967294 }
     ensures spells { IfOk result (λ pairs. SpellsPairs inst.now bytes.now (numbers_of pairs.items)) }
     ensures in_range { IfOk result (λ pairs. All (λ p. IsPairNo inst.now p.0) pairs.items) }

@@ -61,7 +61,7 @@ fn read_lists(alloc: Global, text: &[u8]) -> Result<Draft, ReadRefusal>
     resolve(alloc, text, &names)
 }
 
-/// Reads an instance's text. Line feeds are few enough for a line number to fit.
+/// Reads an instance in any spelling. The text has few enough line feeds for each line's number to fit.
 pub fn read_instance(alloc: Global, bytes: &[u8]) -> Result<Instance, ReadRefusal>
     requires { count_by (λ b. b == 10) bytes.now ≤ 4294967294 }
     ensures spells { IfOk result (λ instance. Spells bytes.now instance) }

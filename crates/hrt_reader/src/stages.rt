@@ -33,9 +33,8 @@ fn before_end(flaw: Flaw, is_last: bool) -> Flaw
     ensures { flaw_number result ≡ (if nat_lt 9 (flaw_number flaw) && is_last then 9 else flaw_number flaw) }
 {
     match flaw {
-        Flaw::Bad(ReadKind::AfterEnd) | Flaw::TooManyResidents | Flaw::TooManyHospitals if is_last => {
-            Flaw::Bad(ReadKind::NoEnd)
-        }
+        Flaw::Bad(ReadKind::AfterEnd) | Flaw::TooManyResidents | Flaw::TooManyHospitals
+            if is_last => { Flaw::Bad(ReadKind::NoEnd) }
         other => other,
     }
 }

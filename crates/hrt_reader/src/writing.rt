@@ -14,7 +14,12 @@ use itoa::Buffer;
 use rank_tables::{Groups, Instance};
 
 // Names, each after a space.
-fn write_spaced<H: Host>(instance: &Instance, side: Side, numbers: &[u32], host: &mut H) -> Result<(), Failed>
+fn write_spaced<H: Host>(
+    instance: &Instance,
+    side: Side,
+    numbers: &[u32],
+    host: &mut H,
+) -> Result<(), Failed>
     requires begun { (H.world host.old).begun Port.Instance ≡ Begun.Writing }
     requires numbers { IsTrue (list_all (is_number (names_of side instance.now)) numbers.now) }
     ensures sent { OnOk result (Sent H.told Port.Instance (flat_map (spaced (names_of side instance.now)) numbers.now) (H.world host.old) (H.world host.new)) }
@@ -28,7 +33,12 @@ fn write_spaced<H: Host>(instance: &Instance, side: Side, numbers: &[u32], host:
 }
 
 // A group; one of several names has parentheses.
-fn write_group<H: Host>(instance: &Instance, side: Side, group: &[u32], host: &mut H) -> Result<(), Failed>
+fn write_group<H: Host>(
+    instance: &Instance,
+    side: Side,
+    group: &[u32],
+    host: &mut H,
+) -> Result<(), Failed>
     requires begun { (H.world host.old).begun Port.Instance ≡ Begun.Writing }
     requires numbers { IsTrue (list_all (is_number (names_of side instance.now)) group.now) }
     ensures sent { OnOk result (Sent H.told Port.Instance (group_text (names_of side instance.now) group.now) (H.world host.old) (H.world host.new)) }
@@ -42,7 +52,13 @@ fn write_group<H: Host>(instance: &Instance, side: Side, group: &[u32], host: &m
 }
 
 // Several names in parentheses.
-fn write_tie<H: Host>(instance: &Instance, side: Side, first: u32, others: &[u32], host: &mut H) -> Result<(), Failed>
+fn write_tie<H: Host>(
+    instance: &Instance,
+    side: Side,
+    first: u32,
+    others: &[u32],
+    host: &mut H,
+) -> Result<(), Failed>
     requires begun { (H.world host.old).begun Port.Instance ≡ Begun.Writing }
     requires first { first < length (names_of side instance.now) }
     requires others { IsTrue (list_all (is_number (names_of side instance.now)) others.now) }
@@ -56,7 +72,12 @@ fn write_tie<H: Host>(instance: &Instance, side: Side, first: u32, others: &[u32
 }
 
 // A list.
-fn write_items<H: Host>(instance: &Instance, side: Side, groups: &Groups, host: &mut H) -> Result<(), Failed>
+fn write_items<H: Host>(
+    instance: &Instance,
+    side: Side,
+    groups: &Groups,
+    host: &mut H,
+) -> Result<(), Failed>
     requires begun { (H.world host.old).begun Port.Instance ≡ Begun.Writing }
     requires numbers { IsTrue (list_all (is_number (names_of side instance.now)) (concat groups.now)) }
     ensures sent { OnOk result (Sent H.told Port.Instance (items_text (names_of side instance.now) groups.now) (H.world host.old) (H.world host.new)) }
@@ -77,7 +98,11 @@ fn write_resident<H: Host>(instance: &Instance, r: u32, host: &mut H) -> Result<
     ensures failed { OnErr result (SentPart H.told Port.Instance (line_of_resident instance.now r) (H.world host.old) (H.world host.new)) }
 {
     let name = instance.resident_name(r).bytes();
-    write_pieces(host, Port::Instance, &[b"resident ".as_slice(), name, b":".as_slice()])?;
+    write_pieces(
+        host,
+        Port::Instance,
+        &[b"resident ".as_slice(), name, b":".as_slice()],
+    )?;
     write_items(instance, Side::Hospitals, instance.resident_list(r), host)?;
     write_all(host, Port::Instance, b"\n")
 }
@@ -96,7 +121,13 @@ fn write_hospital<H: Host>(instance: &Instance, h: u32, host: &mut H) -> Result<
     write_pieces(
         host,
         Port::Instance,
-        &[b"hospital ".as_slice(), name, b" ".as_slice(), capacity, b":".as_slice()],
+        &[
+            b"hospital ".as_slice(),
+            name,
+            b" ".as_slice(),
+            capacity,
+            b":".as_slice(),
+        ],
     )?;
     write_items(instance, Side::Residents, instance.hospital_list(h), host)?;
     write_all(host, Port::Instance, b"\n")

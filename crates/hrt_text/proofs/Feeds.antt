@@ -1,10 +1,10 @@
 -- How many lines a text has: at most one more than it has line feeds.
-use Rattle.std.proofs.Common.{◌≡◌, ℕ, ◌+◌, ◌≤◌, max, Bool, true, false, cond, eqb, List, [], ◌∷◌, length, map, refl, sym, subst, arith}
+use Rattle.std.proofs.Common.{◌≡◌, ℕ, ◌+◌, ◌≤◌, Bool, true, false, cond, eqb, List, [], ◌∷◌, length, sym, subst, arith}
 use Rattle.std.specs.Prelude.{count_by}
 use Rattle.std.specs.List.{onto_first}
 use Rattle.std.proofs.lemmas.List.{length-map}
 use Rattle.std.proofs.lemmas.List.Sums.{sum_by-cons}
-use Rattle.hrt_text.specs.Text.{parts, without_return, lines, tokens, Row, rows}
+use Rattle.hrt_text.specs.Text.{parts, without_return, lines, tokens, rows}
 
 onto_first_few : (b : ℕ) (ls : List (List ℕ)) (n : ℕ) → length ls ≤ n + 1 → length (onto_first b ls) ≤ n + 1
 onto_first_few b [] n h = omega arith

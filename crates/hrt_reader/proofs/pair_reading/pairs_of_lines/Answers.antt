@@ -1,8 +1,7 @@
-use Rattle.std.proofs.Common.{◌≡◌, ◌∙◌, ◌+◌, ◌++◌, ◌∷◌, [], ℕ, suc, List, None, sym, ap, subst, map, length, take, drop, arith, below_more}
+use Rattle.std.proofs.Common.{◌≡◌, ◌∙◌, ◌++◌, ◌∷◌, [], ℕ, suc, List, None, sym, ap, subst, map, length, take, drop, arith, below_more}
 use Rattle.std.specs.Prelude.{option_map}
 use Rattle.hrt_text.specs.Text.{Row, rows, tokens}
 use Rattle.rank_tables.specs.Instance.{Lists}
-use Rattle.rank_tables.specs.Tables.{numbers_of}
 use Rattle.hrt_reader.specs.PairsText.{pairs_of_rows, pair_kind_in}
 use Rattle.hrt_reader.specs.PairsAnswer.{pairs_number}
 use Rattle.hrt_reader.proofs.Places.{drop_next, all_read, all_taken, within_at}

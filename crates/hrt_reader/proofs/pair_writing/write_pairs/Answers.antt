@@ -1,7 +1,6 @@
-use Rattle.std.proofs.Common.{◌≡◌, ◌∙◌, ℕ, List, take, ap, arith, rules}
+use Rattle.std.proofs.Common.{◌≡◌, ◌∙◌, take, ap, arith, rules}
 use Rattle.std.specs.Prelude.{flat_map}
 use Rattle.std.proofs.lemmas.List.{take_all}
-use Rattle.hrt_base.specs.declared.numbered.PairNo.{PairNo}
 use Rattle.rank_tables.specs.Instance.{Lists}
 use Rattle.hrt_reader.proofs.Flat.{part_sent, part_failed, sent_as, failed_as}
 use Rattle.hrt_reader.proofs.PairsBack.{line_of, lines_of, spelled_back}

@@ -1,4 +1,3 @@
-use Rattle.std.proofs.Common.{ℕ, List}
 use Rattle.std.proofs.lemmas.Result.{on_ok_weaker, on_err_weaker}
 use Rattle.hrt_reader.specs.Written.{names_of}
 use Rattle.hrt_reader.proofs.Flat.{sent_as, failed_as}

@@ -1,4 +1,4 @@
-use Rattle.std.proofs.Common.{◌≡◌, ◌<◌, ℕ, [], List, IsTrue, length, sym, ap, subst, arith, rules}
+use Rattle.std.proofs.Common.{◌<◌, ℕ, [], List, IsTrue, length, sym, ap, subst, arith, rules}
 use Rattle.std.specs.List.{list_all}
 use Rattle.hrt_reader.specs.Spelling.{group_text}
 use Rattle.hrt_reader.specs.Written.{names_of, is_number}

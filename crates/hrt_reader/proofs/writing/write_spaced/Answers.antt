@@ -1,6 +1,4 @@
-use Rattle.std.proofs.Common.{◌≡◌, ℕ, List, get_or, arith, rules}
-use Rattle.hrt_base.specs.Calls.{SentPart}
-use Rattle.hrt_base.specs.declared.port.Port.TheVariants.{Instance}
+use Rattle.std.proofs.Common.{ℕ, List, get_or, arith, rules}
 use Rattle.hrt_reader.specs.Written.{names_of, spaced}
 use Rattle.hrt_reader.proofs.Flat.{part_failed, failed_as, two_pieces}
 use Rattle.hrt_reader.proofs.writing.write_spaced.Goals as goal

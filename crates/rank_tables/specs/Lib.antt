@@ -6,3 +6,4 @@ pub mod Stability
 pub mod WellFormed
 pub mod Tables
 pub mod Building
+pub mod Terms

@@ -39,16 +39,20 @@ one_row : (f : ℕ → Written) (b : Bool) (k : ℕ) → map in_normal_form (map
 one_row f true k = refl
 one_row f false k = refl
 
-pub rows_more : (before : List Written) (f : ℕ → Written) (has : ℕ → Bool) (k : ℕ) →
-    rows_to before f has (k + 1) ≡ rows_to before f has k ++ (if has k then in_normal_form (f k) ∷ [] else [])
-rows_more before f has k =
+pub rows_next : (before : List Written) (f : ℕ → Written) (has : ℕ → Bool) (k : ℕ) →
+    rows_to before f has (suc k) ≡ rows_to before f has k ++ (if has k then in_normal_form (f k) ∷ [] else [])
+rows_next before f has k =
     let last : List ℕ = cond (has k) (k ∷ []) [] in
     let start : List Written = map f (filter has (below k)) in
-    ap (λ ns. map in_normal_form (before ++ map f ns)) (rw add-one (filter-append has (below k) (k ∷ [])))
+    ap (λ ns. map in_normal_form (before ++ map f ns)) (filter-append has (below k) (k ∷ []))
     ∙ ap (λ rs. map in_normal_form (before ++ rs)) (map-append f (filter has (below k)) last)
     ∙ ap (map in_normal_form) (sym (append_assoc before start (map f last)))
     ∙ map-append in_normal_form (before ++ start) (map f last)
     ∙ ap (λ (rs : List PlainRow). map in_normal_form (before ++ start) ++ rs) (one_row f (has k) k)
+
+pub rows_more : (before : List Written) (f : ℕ → Written) (has : ℕ → Bool) (k : ℕ) →
+    rows_to before f has (k + 1) ≡ rows_to before f has k ++ (if has k then in_normal_form (f k) ∷ [] else [])
+rows_more before f has k = rw add-one (rows_next before f has k)
 
 pub rows_counted : (before : List Written) (f : ℕ → Written) (has : ℕ → Bool) (k : ℕ) → length (rows_to before f has k) ≡ length before + count_by has (below k)
 rows_counted before f has k =

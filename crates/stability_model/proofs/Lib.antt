@@ -4,5 +4,7 @@ pub mod ModelExact
 pub mod Optimum
 mod Pushes
 mod Growing
+mod Places
+pub mod TermCount
 mod PairTerms
 mod Worked

@@ -1,7 +1,9 @@
 -- The definitions, computed on instances worked by hand.
+use Rattle.std.proofs.Common.{arith}
 use Rattle.std.specs.Prelude.{◌≡◌, true, false, Some, None, [], ◌∷◌, length, pos, negsuc, ◌==◌, nat_le, ◌||◌, refl}
 use Rattle.pb_rows.specs.Points.{value_at}
 use Rattle.rank_tables.specs.Instance.{Lists}
+use Rattle.rank_tables.specs.WellFormed.{IsWellFormed}
 use Rattle.stability_model.specs.Model.{all_rows_hold, at_most, hospital_row_no, objective, pair_row, pair_row_no, pairs_of_point, point_of_pairs, resident_row_no, term, written_rows}
 use Rattle.stability_model.specs.Gone.{ceiling, rule_a, rule_b}
 
@@ -91,3 +93,29 @@ bare-resident = refl
 
 pub bare-hospital : hospital_row_no bare 1 ≡ Some 2
 bare-hospital = refl
+
+pub tied-well_formed : IsWellFormed tied
+tied-well_formed = record {
+  few_residents = omega arith;
+  few_hospitals = omega arith;
+  resident_names = refl;
+  hospital_names = refl;
+  residents_apart = refl;
+  hospitals_apart = refl;
+  capacities = refl;
+  resident_lists = refl;
+  hospital_lists = refl;
+}
+
+pub bare-well_formed : IsWellFormed bare
+bare-well_formed = record {
+  few_residents = omega arith;
+  few_hospitals = omega arith;
+  resident_names = refl;
+  hospital_names = refl;
+  residents_apart = refl;
+  hospitals_apart = refl;
+  capacities = refl;
+  resident_lists = refl;
+  hospital_lists = refl;
+}

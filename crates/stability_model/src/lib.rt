@@ -5,5 +5,7 @@ mod buckets;
 mod making;
 mod model;
 mod terms;
+#[cfg(test)]
+mod tests;
 
 pub use model::Model;

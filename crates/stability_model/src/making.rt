@@ -85,12 +85,7 @@ pub fn push_hospital_rows(
 }
 
 // The row of a pair, given the pairs of its hospital. It is never too big: a hospital has at most 20,000 posts.
-fn pair_row(
-    alloc: Global,
-    inst: &Instance,
-    p: PairNo,
-    pairs: &[PairNo],
-) -> Result<Row, NoMemory>
+fn pair_row(alloc: Global, inst: &Instance, p: PairNo, pairs: &[PairNo]) -> Result<Row, NoMemory>
     requires p { IsPairNo inst.now p.0 }
     requires pairs { numbers_of pairs.now ≡ pairs_of_hospital inst.now (pair_at inst.now p.0).hospital }
     ensures { IfOk result (λ row. row ≡ in_normal_form (pair_row inst.now p.0)) }

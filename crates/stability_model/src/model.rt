@@ -1,7 +1,7 @@
 // The model of an instance.
-ghost use Rattle.std.specs.Prelude.{◌≡◌, ◌-◌, ◌<◌, ◌≤◌, length, slice_get, Some, IfOk};
+ghost use Rattle.std.specs.Prelude.{◌≡◌, ◌-◌, ◌<◌, ◌≤◌, length, slice_get, Some, IfOk, IfSome};
 ghost use Rattle.rank_tables.specs.Tables.{IsPairNo};
-ghost use Rattle.stability_model.specs.Model.{IsExact, IsRow, TellsBlocking, hospital_row_no, objective, pair_row, pair_row_no, resident_row_no, rows, term};
+ghost use Rattle.stability_model.specs.Model.{IsExact, IsRow, TellsBlocking, hospital_row, hospital_row_no, objective, pair_row, pair_row_no, resident_row, resident_row_no, rows, term};
 
 use crate::buckets::pairs_by_hospital;
 use crate::making::{push_hospital_rows, push_pair_rows, push_resident_rows};
@@ -88,7 +88,8 @@ impl<'a> Model<'a> {
     /// The number of the row that resident r is in at most one pair, or `None` where it has no acceptable pair.
     pub fn resident_row(&self, r: u32) -> Option<u32>
         requires { r < length self.now.residents }
-        ensures { result ≡ resident_row_no self.now r }
+        ensures number { result ≡ resident_row_no self.now r }
+        ensures row { IfSome result (λ k. IsRow self.now k (resident_row self.now r)) }
     {
         self.resident_rows[r as usize]
     }
@@ -97,7 +98,8 @@ impl<'a> Model<'a> {
     /// acceptable pair.
     pub fn hospital_row(&self, h: u32) -> Option<u32>
         requires { h < length self.now.hospitals }
-        ensures { result ≡ hospital_row_no self.now h }
+        ensures number { result ≡ hospital_row_no self.now h }
+        ensures row { IfSome result (λ k. IsRow self.now k (hospital_row self.now h)) }
     {
         self.hospital_rows[h as usize]
     }

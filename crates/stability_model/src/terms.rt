@@ -83,11 +83,7 @@ fn hospital_share(inst: &Instance, p: PairNo, q: PairNo) -> u32
 }
 
 // Appends the terms of the resident's pairs.
-fn push_resident_terms(
-    terms: &mut Vec<Term>,
-    inst: &Instance,
-    p: PairNo,
-) -> Result<(), AllocError>
+fn push_resident_terms(terms: &mut Vec<Term>, inst: &Instance, p: PairNo) -> Result<(), AllocError>
     requires { IsPairNo inst.now p.0 }
     ensures { OnOk result (terms.new.items ≡ terms.old.items ++ counted_terms (resident_share inst.now p.0) (pairs_of_resident inst.now (pair_at inst.now p.0).resident)) }
 {

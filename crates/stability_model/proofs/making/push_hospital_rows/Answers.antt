@@ -36,12 +36,12 @@ loop-h-preserved c =
     let count : length c.loop-h.rows.items ≡ length before + count_by (hospital_has_pair lists) (below h) =
     ap length c.loop-h.invariant.0 ∙ rows_counted before (hospital_row lists) (hospital_has_pair lists) h in (
       c.in_ok-push_at_most.ensures.rows
-      ∙ ap₂ (λ (rs : List PlainRow) (ps : List ℕ). rs ++ row_if_any c.capacity.result ps) c.loop-h.invariant.0 pairs
-      ∙ ap (λ n. rows_to before (hospital_row lists) (hospital_has_pair lists) h ++ row_if_any n (pairs_of_hospital lists h)) c.capacity.ensures.value
-      ∙ sym (rows_more before (hospital_row lists) (hospital_has_pair lists) h),
+          ∙ ap₂ (λ (rs : List PlainRow) (ps : List ℕ). rs ++ row_if_any c.capacity.result ps) c.loop-h.invariant.0 pairs
+          ∙ ap (λ n. rows_to before (hospital_row lists) (hospital_has_pair lists) h ++ row_if_any n (pairs_of_hospital lists h)) c.capacity.ensures.value
+          ∙ sym (rows_more before (hospital_row lists) (hospital_has_pair lists) h),
       c.in_ok-push.ensures.items
-      ∙ ap₂ (λ (ns : List (Option ℕ)) (n : Option ℕ). ns ++ n ∷ []) c.loop-h.invariant.1 (c.in_ok-push_at_most.ensures.number ∙ ap₂ number_after count pairs)
-      ∙ sym (map_below (hospital_row_no lists) h),
+          ∙ ap₂ (λ (ns : List (Option ℕ)) (n : Option ℕ). ns ++ n ∷ []) c.loop-h.invariant.1 (c.in_ok-push_at_most.ensures.number ∙ ap₂ number_after count pairs)
+          ∙ sym (map_below (hospital_row_no lists) h),
     )
 
 pub returns-clause-few : goal.returns-clause-few

@@ -23,11 +23,11 @@ loop-r-preserved c =
     let count : length c.loop-r.rows.items ≡ count_by (resident_has_pair lists) (below r) =
     omega (arith, ap length c.loop-r.invariant.0, rows_counted [] (resident_row lists) (resident_has_pair lists) r) in (
       c.in_ok-push_at_most.ensures.rows
-      ∙ ap₂ (λ (rs : List PlainRow) (ps : List ℕ). rs ++ row_if_any 1 ps) c.loop-r.invariant.0 c.pairs_of_resident.ensures.numbers
-      ∙ sym (rows_more [] (resident_row lists) (resident_has_pair lists) r),
+          ∙ ap₂ (λ (rs : List PlainRow) (ps : List ℕ). rs ++ row_if_any 1 ps) c.loop-r.invariant.0 c.pairs_of_resident.ensures.numbers
+          ∙ sym (rows_more [] (resident_row lists) (resident_has_pair lists) r),
       c.in_ok-push.ensures.items
-      ∙ ap₂ (λ (ns : List (Option ℕ)) (n : Option ℕ). ns ++ n ∷ []) c.loop-r.invariant.1 (c.in_ok-push_at_most.ensures.number ∙ ap₂ number_after count c.pairs_of_resident.ensures.numbers)
-      ∙ sym (map_below (resident_row_no lists) r),
+          ∙ ap₂ (λ (ns : List (Option ℕ)) (n : Option ℕ). ns ++ n ∷ []) c.loop-r.invariant.1 (c.in_ok-push_at_most.ensures.number ∙ ap₂ number_after count c.pairs_of_resident.ensures.numbers)
+          ∙ sym (map_below (resident_row_no lists) r),
     )
 
 pub returns-clause-few : goal.returns-clause-few

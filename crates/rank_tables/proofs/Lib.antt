@@ -6,6 +6,7 @@ mod RowsMade
 pub mod ListFacts
 mod Listed
 pub mod PairFacts
+pub mod SamePairs
 mod TableFacts
 mod TablesMade
 mod OneSided

@@ -127,8 +127,14 @@ fn pairs(rt: HostRuntime) -> Result<(), Fail> {
     let instance = sample(rt.alloc())?;
     assert_eq!(rt; instance.pair_no(1, 0), Some(PairNo(5)));
     assert_eq!(rt; instance.pair_no(2, 2), None);
-    assert_eq!(rt; instance.pairs_of_resident(1), [PairNo(4), PairNo(5)].as_slice());
-    assert_eq!(rt; instance.pairs_of_hospital(0), [PairNo(5), PairNo(1), PairNo(6)].as_slice());
+    assert_eq!(rt;
+        instance.pairs_of_resident(1),
+        [PairNo(4), PairNo(5)].as_slice()
+    );
+    assert_eq!(rt;
+        instance.pairs_of_hospital(0),
+        [PairNo(5), PairNo(1), PairNo(6)].as_slice()
+    );
     assert_eq!(rt; instance.resident_of(PairNo(6)), 2);
     assert_eq!(rt; instance.hospital_of(PairNo(6)), 0);
     assert_eq!(rt; instance.rank_by_resident(PairNo(3)), 2);
@@ -143,11 +149,17 @@ fn preferences(rt: HostRuntime) -> Result<(), Fail> {
     assert_eq!(rt; instance.resident_of(PairNo(2)), resident);
     assert_eq!(rt; instance.resident_of(PairNo(3)), resident);
     assert!(rt; instance.resident_prefers(PairNo(1), PairNo(3)));
-    assert!(rt; !instance.resident_prefers(PairNo(1), PairNo(2)), "x and y are tied");
+    assert!(rt;
+        !instance.resident_prefers(PairNo(1), PairNo(2)),
+        "x and y are tied"
+    );
     let hospital = instance.hospital_of(PairNo(5));
     assert_eq!(rt; instance.hospital_of(PairNo(1)), hospital);
     assert_eq!(rt; instance.hospital_of(PairNo(6)), hospital);
     assert!(rt; instance.hospital_prefers(PairNo(5), PairNo(6)));
-    assert!(rt; !instance.hospital_prefers(PairNo(5), PairNo(1)), "a and b are tied");
+    assert!(rt;
+        !instance.hospital_prefers(PairNo(5), PairNo(1)),
+        "a and b are tied"
+    );
     Ok(())
 }

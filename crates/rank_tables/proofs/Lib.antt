@@ -12,6 +12,7 @@ pub mod Membership
 pub mod Numbers
 pub mod PairFacts
 pub mod Ranks
+pub mod SamePairs
 pub mod StablePairs
 pub mod TableFacts
 pub mod Unique

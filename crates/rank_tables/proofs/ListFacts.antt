@@ -24,7 +24,7 @@ is_in-filter test x (y ∷ xs) h =
       | inr lost ↦ rw (lost, is_in-filter test x xs parts.1) refl
     ]
 
-is_distinct-filter : (test : ℕ → Bool) (xs : List ℕ) → is_distinct xs ≡ true → is_distinct (filter test xs) ≡ true
+pub is_distinct-filter : (test : ℕ → Bool) (xs : List ℕ) → is_distinct xs ≡ true → is_distinct (filter test xs) ≡ true
 is_distinct-filter test [] h = refl
 is_distinct-filter test (x ∷ xs) h =
     let both = and_parts _ _ h in

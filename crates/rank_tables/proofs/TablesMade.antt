@@ -201,7 +201,7 @@ numbered-listed lists h marks (r ∷ rs) e =
     ∙ ap (cons_option (pair_no lists r h)) (numbered-listed lists h marks rs e)
 
 -- what holds of each number of a list
-in_all : (P : ℕ → Type 0) (xs : List ℕ) (x : ℕ) → All P xs → is_in x xs ≡ true → P x
+pub in_all : (P : ℕ → Type 0) (xs : List ℕ) (x : ℕ) → All P xs → is_in x xs ≡ true → P x
 in_all P xs x all h =
     let found = Any-from_list_any (λ y. y == x) xs h in
     subst P (found.3 ∙ eqb-true _ _ found.4) (all found.0 found.1 found.2)

@@ -204,7 +204,7 @@ any_flat test f (suc n) r l h =
 resident_names-declared : (lists : Lists) (r h : ℕ) → resident_names lists r h ≡ true → r < length lists.residents
 resident_names-declared lists r h e = elim ((slice_get_cases lists.residents r).1) [
   | inl at ↦ at.1
-  | inr past ↦ absurd (cc (e, ap (λ o. is_in h (concat (unwrap_or (option_map (λ resident. resident.groups) o) []))) past.1))
+  | inr past ↦ absurd (cc (sym (ap (λ o. is_in h (concat (unwrap_or (option_map (λ resident. resident.groups) o) []))) past.1) ∙ e))
 ]
 
 -- a resident and a hospital have a pair exactly where each names the other

@@ -1,8 +1,6 @@
 //! Each public call once, with ample memory.
-ghost use Rattle.std.specs.Prelude.{◌≡◌, ◌<◌, [], ◌∷◌, IfOk, IsTrue};
-ghost use Rattle.rank_tables.specs.Names.{is_name};
-ghost use Rattle.rank_tables.specs.Instance.{lists_of};
-ghost use Rattle.rank_tables.proofs.Worked.{mixed};
+ghost use Rattle.std.specs.Prelude.{◌≡◌, [], ◌∷◌, true, false, length, IfOk};
+ghost use Rattle.rank_tables.specs.Instance.{pair_count};
 
 use crate::{Draft, DraftHospital, DraftResident, Groups, Instance, Name};
 use hrt_base::{NoMemory, PairNo};
@@ -42,7 +40,10 @@ fn list_of(alloc: Global, first: u32, second: u32, tied: bool) -> Result<Groups,
 
 // a: (x y) z, b: y x, c: x z
 fn residents(alloc: Global) -> Result<Vec<DraftResident>, NoMemory>
-    ensures { IfOk result (λ residents. residents.items ≡ mixed.residents) }
+    ensures { IfOk result (λ residents. residents.items
+        ≡ record { name = 97 ∷ []; groups = (0 ∷ 1 ∷ []) ∷ (2 ∷ []) ∷ [] }
+        ∷ record { name = 98 ∷ []; groups = (1 ∷ []) ∷ (0 ∷ []) ∷ [] }
+        ∷ record { name = 99 ∷ []; groups = (0 ∷ []) ∷ (2 ∷ []) ∷ [] } ∷ []) }
 {
     let mut first = list_of(alloc, 0, 1, true)?;
     first.push(2, false)?;
@@ -64,7 +65,10 @@ fn residents(alloc: Global) -> Result<Vec<DraftResident>, NoMemory>
 
 // x 1: (b a) c, y 2: b a, z 1: a
 fn hospitals(alloc: Global) -> Result<Vec<DraftHospital>, NoMemory>
-    ensures { IfOk result (λ hospitals. hospitals.items ≡ mixed.hospitals) }
+    ensures { IfOk result (λ hospitals. hospitals.items
+        ≡ record { name = 120 ∷ []; capacity = 1; groups = (1 ∷ 0 ∷ []) ∷ (2 ∷ []) ∷ [] }
+        ∷ record { name = 121 ∷ []; capacity = 2; groups = (1 ∷ []) ∷ (0 ∷ []) ∷ [] }
+        ∷ record { name = 122 ∷ []; capacity = 1; groups = (0 ∷ []) ∷ [] } ∷ []) }
 {
     let mut first = list_of(alloc, 1, 0, true)?;
     first.push(2, false)?;
@@ -89,13 +93,23 @@ fn hospitals(alloc: Global) -> Result<Vec<DraftHospital>, NoMemory>
     Ok(hospitals)
 }
 
-#[test]
-fn an_instance(rt: HostRuntime) -> Result<(), Fail> {
+// The instance of these lists, of six pairs.
+fn sample(alloc: Global) -> Result<Instance, Fail>
+    ensures residents { IfOk result (λ instance. length instance.residents ≡ 3) }
+    ensures hospitals { IfOk result (λ instance. length instance.hospitals ≡ 3) }
+    ensures pairs { IfOk result (λ instance. pair_count instance ≡ 6) }
+{
     let draft = Draft {
-        residents: residents(rt.alloc())?,
-        hospitals: hospitals(rt.alloc())?,
+        residents: residents(alloc)?,
+        hospitals: hospitals(alloc)?,
     };
-    let instance = Instance::build(rt.alloc(), draft)?;
+    let instance = Instance::build(alloc, draft)?;
+    Ok(instance)
+}
+
+#[test]
+fn counts_and_lists(rt: HostRuntime) -> Result<(), Fail> {
+    let instance = sample(rt.alloc())?;
     assert_eq!(rt; instance.residents(), 3);
     assert_eq!(rt; instance.hospitals(), 3);
     assert_eq!(rt; instance.pairs(), 6);
@@ -105,22 +119,47 @@ fn an_instance(rt: HostRuntime) -> Result<(), Fail> {
     assert_eq!(rt; instance.hospital_name(2).bytes(), b"z".as_slice());
     assert_eq!(rt; instance.resident_list(2).count(), 2);
     assert_eq!(rt; instance.hospital_list(0).count(), 2);
+    Ok(())
+}
+
+#[test]
+fn pairs(rt: HostRuntime) -> Result<(), Fail> {
+    let instance = sample(rt.alloc())?;
     assert_eq!(rt; instance.pair_no(1, 0), Some(PairNo(5)));
     assert_eq!(rt; instance.pair_no(2, 2), None);
-    assert_eq!(rt; instance.pairs_of_resident(1), [PairNo(4), PairNo(5)].as_slice());
-    assert_eq!(rt; instance.pairs_of_hospital(0), [PairNo(5), PairNo(1), PairNo(6)].as_slice());
+    assert_eq!(rt;
+        instance.pairs_of_resident(1),
+        [PairNo(4), PairNo(5)].as_slice()
+    );
+    assert_eq!(rt;
+        instance.pairs_of_hospital(0),
+        [PairNo(5), PairNo(1), PairNo(6)].as_slice()
+    );
     assert_eq!(rt; instance.resident_of(PairNo(6)), 2);
     assert_eq!(rt; instance.hospital_of(PairNo(6)), 0);
     assert_eq!(rt; instance.rank_by_resident(PairNo(3)), 2);
     assert_eq!(rt; instance.rank_by_hospital(PairNo(6)), 2);
-    assert_eq!(rt; instance.resident_of(PairNo(1)), 0);
-    assert_eq!(rt; instance.resident_of(PairNo(2)), 0);
-    assert_eq!(rt; instance.resident_of(PairNo(3)), 0);
+    Ok(())
+}
+
+#[test]
+fn preferences(rt: HostRuntime) -> Result<(), Fail> {
+    let instance = sample(rt.alloc())?;
+    let resident = instance.resident_of(PairNo(1));
+    assert_eq!(rt; instance.resident_of(PairNo(2)), resident);
+    assert_eq!(rt; instance.resident_of(PairNo(3)), resident);
     assert!(rt; instance.resident_prefers(PairNo(1), PairNo(3)));
-    assert!(rt; !instance.resident_prefers(PairNo(1), PairNo(2)), "x and y are tied");
-    assert_eq!(rt; instance.hospital_of(PairNo(1)), 0);
-    assert_eq!(rt; instance.hospital_of(PairNo(5)), 0);
+    assert!(rt;
+        !instance.resident_prefers(PairNo(1), PairNo(2)),
+        "x and y are tied"
+    );
+    let hospital = instance.hospital_of(PairNo(5));
+    assert_eq!(rt; instance.hospital_of(PairNo(1)), hospital);
+    assert_eq!(rt; instance.hospital_of(PairNo(6)), hospital);
     assert!(rt; instance.hospital_prefers(PairNo(5), PairNo(6)));
-    assert!(rt; !instance.hospital_prefers(PairNo(5), PairNo(1)), "a and b are tied");
+    assert!(rt;
+        !instance.hospital_prefers(PairNo(5), PairNo(1)),
+        "a and b are tied"
+    );
     Ok(())
 }

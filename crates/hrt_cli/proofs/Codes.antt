@@ -109,6 +109,20 @@ pub closed : (told : Type 0) (request : Option Request) (status : Status) (old n
     → (port : Port) → new.begun port ≡ Writing → ⊥
 closed told request status old new ends has = (reported told request status old new ends has).closed
 
+-- without a rise of the counts of faults the verdict is answered, or memory was wanting
+pub complete : (told : Type 0) (request : Option Request) (status : Status) (old new : World) → EndsAs told request status old new → told
+    → (Rose old.read_faults new.read_faults → ⊥) → (Rose old.write_faults new.write_faults → ⊥) → (verdict : Verdict) → verdict_of request old.content.file ≡ Some verdict
+    → (code_of status ≡ code_of (status_of verdict)) ⊎ (code_of status ≡ 6)
+complete told request ReadFault old new ends t unread unwritten verdict is = absurd (unread ends.rose)
+complete told request WriteFault old new ends t unread unwritten verdict is = absurd (unwritten ends.rose)
+complete told request NoMemory old new ends t unread unwritten verdict is = inr refl
+complete told request Done old new ends t unread unwritten verdict is = inl (due told request Done old new ends t verdict is refl)
+complete told request Misused old new ends t unread unwritten verdict is = inl (due told request Misused old new ends t verdict is refl)
+complete told request InstanceRefused old new ends t unread unwritten verdict is = inl (due told request InstanceRefused old new ends t verdict is refl)
+complete told request LimitExceeded old new ends t unread unwritten verdict is = inl (due told request LimitExceeded old new ends t verdict is refl)
+complete told request AuditNo old new ends t unread unwritten verdict is = inl (due told request AuditNo old new ends t verdict is refl)
+complete told request PairsRefused old new ends t unread unwritten verdict is = inl (due told request PairsRefused old new ends t verdict is refl)
+
 pub misused_code : (told : Type 0) (request : Option Request) (status : Status) (old new : World) → EndsAs told request status old new → code_of status ≡ 2 → request ≡ None
 misused_code told request Misused old new ends e = ends.understood.0 refl
 misused_code told request Done old new ends e = absurd (cc)

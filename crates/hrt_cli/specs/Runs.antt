@@ -1,5 +1,5 @@
 -- How a run ends, and what stands after it.
-use Rattle.std.specs.Prelude.{◌≡◌, ◌≤◌, ◌↔◌, ℕ, ◌==◌, ◌||◌, Bool, true, not, List, [], take, Option, Some, None}
+use Rattle.std.specs.Prelude.{◌≡◌, ◌⊎◌, ◌≤◌, ◌↔◌, ℕ, ◌==◌, ◌||◌, Bool, true, not, List, [], take, Option, Some, None}
 use Rattle.std.specs.List.Sorted.{IsStrictlyIncreasing}
 use Rattle.hrt_base.specs.declared.port.Port.{Port}
 use Rattle.hrt_base.specs.declared.port.Port.TheVariants.{Report}
@@ -102,6 +102,12 @@ pub record IsDecided (request : Option Request) (n : ℕ) (old new : World) : Ty
 -- The code of the verdict that the words and the files come to, unless a call of the host failed or memory was wanting
 abbrev pub IsDue : Option Request → ℕ → World → Type 0
 IsDue request n old = (verdict : Verdict) → verdict_of request old.content.file ≡ Some verdict → has_report n ≡ true → n ≡ code_of (status_of verdict)
+
+-- without a rise of the counts of faults the code is that of the verdict, or memory was wanting
+abbrev pub IsComplete : Option Request → ℕ → World → World → Type 0
+IsComplete request n old new =
+    (Rose old.read_faults new.read_faults → ⊥) → (Rose old.write_faults new.write_faults → ⊥)
+    → (verdict : Verdict) → verdict_of request old.content.file ≡ Some verdict → (n ≡ code_of (status_of verdict)) ⊎ (n ≡ 6)
 
 -- the report lists the pairs of a best matching of the instance that the file spells, by rising number
 pub record PrintsBest (instance : List ℕ) (old new : Content) : Type 0 where

@@ -4,7 +4,7 @@ ghost use Rattle.hrt_base.specs.declared.port.Port.{Port};
 ghost use Rattle.hrt_base.specs.Calls.{AtStart, Rose, SentPart};
 ghost use Rattle.hrt_cli.specs.Answers.{GivesUp, IsAnswered};
 ghost use Rattle.hrt_cli.specs.Requests.{asked_by, request_of, solve, texts_of};
-ghost use Rattle.hrt_cli.specs.Runs.{EndsAs, IsCutShort, IsDecided, IsDue, IsSentWhole, KeepsFiles, PrintsBest, SendsNothing, has_report, is_code};
+ghost use Rattle.hrt_cli.specs.Runs.{EndsAs, IsComplete, IsCutShort, IsDecided, IsDue, IsSentWhole, KeepsFiles, PrintsBest, SendsNothing, has_report, is_code};
 
 use crate::auditing::audit;
 use crate::solve::solve;
@@ -15,7 +15,7 @@ use std::alloc::Global;
 /// Does what the words ask for, and answers the code with which the program exits: 0 done, 2 words not understood,
 /// 3 instance refused, 4 a read failed, 5 a write failed, 6 out of memory, 7 a limit passed, 9 not
 /// weakly stable, 12 pairs refused.
-#[tactic(auto, using(crate::proofs::Codes::best, crate::proofs::Codes::misused_code, crate::proofs::Codes::understood_code, crate::proofs::Codes::decided, crate::proofs::Codes::due, crate::proofs::Codes::read_fault, crate::proofs::Codes::after_read_fault, crate::proofs::Codes::write_fault, crate::proofs::Codes::after_write_fault, crate::proofs::Codes::after_no_memory, crate::proofs::Codes::closed, crate::proofs::Codes::files_kept, crate::proofs::Codes::known))]
+#[tactic(auto, using(crate::proofs::Codes::best, crate::proofs::Codes::misused_code, crate::proofs::Codes::understood_code, crate::proofs::Codes::decided, crate::proofs::Codes::due, crate::proofs::Codes::complete, crate::proofs::Codes::read_fault, crate::proofs::Codes::after_read_fault, crate::proofs::Codes::write_fault, crate::proofs::Codes::after_write_fault, crate::proofs::Codes::after_no_memory, crate::proofs::Codes::closed, crate::proofs::Codes::files_kept, crate::proofs::Codes::known))]
 pub fn run<H: Host>(alloc: Global, words: &[String], host: &mut H) -> u8
     requires { AtStart H.told (H.world host.old) }
     ensures best { H.told → result ≡ 0 → (instance : List ℕ) → request_of (texts_of words.now) ≡ Some (solve instance) → PrintsBest instance (H.world host.old).content (H.world host.new).content }
@@ -23,6 +23,7 @@ pub fn run<H: Host>(alloc: Global, words: &[String], host: &mut H) -> u8
     ensures understood { request_of (texts_of words.now) ≡ None → (result ≡ 2) ⊎ (result ≡ 5) }
     ensures decided { H.told → has_report result ≡ true → IsDecided (request_of (texts_of words.now)) result (H.world host.old) (H.world host.new) }
     ensures due { H.told → IsDue (request_of (texts_of words.now)) result (H.world host.old) }
+    ensures complete { H.told → IsComplete (request_of (texts_of words.now)) result (H.world host.old) (H.world host.new) }
     ensures read_fault { result ≡ 4 → Rose (H.world host.old).read_faults (H.world host.new).read_faults }
     ensures after_read_fault { H.told → result ≡ 4 → SendsNothing (H.world host.old).content (H.world host.new).content }
     ensures write_fault { result ≡ 5 → Rose (H.world host.old).write_faults (H.world host.new).write_faults }

@@ -14,7 +14,8 @@ pub fn write_all<H: Host>(host: &mut H, port: Port, bytes: &[u8]) -> Result<(), 
 {
     let mut done = 0;
     while done < bytes.len() {
-        done += host.write(port, &bytes[done..])?;
+        let count = host.write(port, &bytes[done..])?;
+        done += count;
     }
     Ok(())
 }

@@ -5,8 +5,8 @@ use Rattle.hrt_base.proofs.whole.write_all.Goals as goal
 
 pub loop-done-preserved : goal.loop-done-preserved
 loop-done-preserved g c =
-    let fits : c.in_ok-done.field-0 ≤ length c.args.bytes.now - c.loop-done.done = omega (arith, c.in_ok-done.ensures.count, length-take {A = ℕ}, length-drop {A = ℕ}) in
+    let fits : c.in_ok-count.count ≤ length c.args.bytes.now - c.loop-done.done = omega (arith, c.in_ok-count.ensures.count, length-take {A = ℕ}, length-drop {A = ℕ}) in
     record {
       in_range = omega arith;
-      sent = sent_on _ _ _ _ _ _ _ _ c.loop-done.invariant.sent c.in_ok-done.ensures.sent fits;
+      sent = sent_on _ _ _ _ _ _ _ _ c.loop-done.invariant.sent c.in_ok-count.ensures.sent fits;
     }

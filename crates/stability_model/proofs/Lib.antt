@@ -1,4 +1,3 @@
-pub mod Numbers
 pub mod PairRow
 pub mod ModelExact
 pub mod Optimum

@@ -4,6 +4,8 @@
 #[cfg(test)]
 mod audits;
 #[cfg(test)]
+mod definition;
+#[cfg(test)]
 mod faults;
 #[cfg(test)]
 mod runs;

@@ -27,7 +27,7 @@ fn next(state: &mut u32, below: u32) -> u32 {
     (*state >> 16).checked_rem(below).unwrap_or(0)
 }
 
-fn small(number: u32) -> Small {
+fn instance_of(number: u32) -> Small {
     let mut state = number;
     let mut small = Small {
         by_resident: [[0; 3]; 3],
@@ -212,7 +212,7 @@ fn pairs_text(alloc: Global, chosen: &Chosen) -> Result<Vec<u8>, NoMemory> {
 fn audits_are_the_definition(rt: HostRuntime) -> Result<(), Fail> {
     let alloc = rt.alloc();
     for number in 0..300u32 {
-        let small = small(number);
+        let small = instance_of(number);
         let instance = small.text(alloc)?;
         for bits in 0..512u32 {
             if let Some(chosen) = chosen_of(&small, bits) {

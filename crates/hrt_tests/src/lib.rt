@@ -4,8 +4,6 @@
 #[cfg(test)]
 mod audits;
 #[cfg(test)]
-mod definition;
-#[cfg(test)]
 mod faults;
 #[cfg(test)]
 mod runs;

@@ -1,3 +1,4 @@
+pub mod Numbers
 pub mod PairRow
 pub mod ModelExact
 pub mod Optimum

@@ -3,4 +3,5 @@ pub mod Points
 pub mod Normal
 pub mod Rows
 pub mod Closure
+pub mod Formula
 pub mod Joined

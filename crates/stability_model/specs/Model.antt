@@ -5,6 +5,7 @@ use Rattle.hrt_base.specs.declared.literal.Term.{Term}
 use Rattle.pb_rows.specs.Terms.{PlainRow, Written}
 use Rattle.pb_rows.specs.Points.{Point, value_at}
 use Rattle.pb_rows.specs.Rows.{holds, in_normal_form}
+use Rattle.pb_rows.specs.Formula.{Formula}
 use Rattle.rank_tables.specs.Numbers.{below, numbers_to, is_in}
 use Rattle.rank_tables.specs.Instance.{Lists, capacity_of, pair_at, pair_count, pairs_of_hospital, pairs_of_resident, rank_by_hospital, rank_by_resident}
 use Rattle.rank_tables.specs.Stability.{blocks, is_matching, is_weakly_stable}
@@ -81,6 +82,10 @@ rows lists = map in_normal_form (written_rows lists)
 -- to be made as small as it can be
 abbrev pub objective : Lists → List Term
 objective lists = map (λ p. term (neg_ℤ (pos 1)) p) (numbers_to (pair_count lists))
+
+-- variables, objective and rows together
+abbrev pub formula : Lists → Formula
+formula lists = record { vars = pair_count lists; objective = objective lists; rows = rows lists }
 
 -- the numbers of the rows of a resident and of a hospital: none where there is no acceptable pair
 abbrev pub resident_row_no : Lists → ℕ → Option ℕ

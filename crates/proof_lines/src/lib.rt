@@ -1,0 +1,13 @@
+//! The lines of proofs: what they are, how they are spelled and read, and the notes that the solver writes between them.
+#![tactic(auto)]
+
+mod line;
+mod list;
+mod note;
+mod refusal;
+
+pub use line::{Claim, Line, PolStep};
+pub use list::{Ids, List, Lits, PolSteps, Vars};
+pub use note::Note;
+pub use refusal::{LineKind, LineRefusal};
+pub use row_text::Written;

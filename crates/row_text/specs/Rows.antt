@@ -1,0 +1,49 @@
+-- Rows and terms as they are written.
+use Rattle.std.specs.Prelude.{ℕ, Bool, ◌&&◌, if◌then◌else◌, List, [], ◌∷◌, ◌++◌, flat_map, codes, bytes_eq, decimal, ℤ, pos, negsuc, Option, None, option_map}
+use Rattle.std.specs.Fmt.{signed_decimal}
+use Rattle.std.specs.List.{list_all}
+use Rattle.hrt_base.specs.declared.literal.Lit.{Lit}
+use Rattle.hrt_base.specs.declared.literal.Term.{Term}
+use Rattle.pb_rows.specs.Terms.{Written}
+use Rattle.row_text.specs.Numbers.{both, is_small, read_literal, read_number}
+
+-- ---- read: terms, `>=`, a number, `;`
+
+abbrev pub read_term : List ℕ → List ℕ → Option Term
+read_term number literal = both (λ c l. record { coef = c; lit = l }) (read_number number) (read_literal literal)
+
+abbrev pub row_end : List ℕ → List (List ℕ) → Option Written
+row_end number [] = None
+row_end number (t ∷ []) = if bytes_eq t (codes ";") then option_map (λ n. record { terms = []; at_least = n }) (read_number number) else None
+row_end number (t ∷ u ∷ ts) = None
+
+abbrev pub with_term : Term → Written → Written
+with_term t row = record { terms = t ∷ row.terms; at_least = row.at_least }
+
+abbrev pub read_row : List (List ℕ) → Option Written
+read_row [] = None
+read_row (t ∷ []) = None
+read_row (t ∷ u ∷ ts) = if bytes_eq t (codes ">=") then row_end u ts else both with_term (read_term t u) (read_row ts)
+
+-- every number of the row is within 2^120
+abbrev pub is_small_row : Written → Bool
+is_small_row row = list_all (λ (t : Term). is_small t.coef) row.terms && is_small row.at_least
+
+-- ---- written: every coefficient with its sign, the right side with one only where it is negative
+
+abbrev pub sign_of : ℤ → List ℕ
+sign_of (pos n) = codes "+"
+sign_of (negsuc n) = []
+
+abbrev pub signed_text : ℤ → List ℕ
+signed_text z = sign_of z ++ signed_decimal z
+
+abbrev pub literal_text : Lit → List ℕ
+literal_text l = (if l.neg then codes "~" else []) ++ codes "x" ++ decimal l.var
+
+-- a term, with a space behind it
+abbrev pub term_text : Term → List ℕ
+term_text t = signed_text t.coef ++ 32 ∷ (literal_text t.lit ++ 32 ∷ [])
+
+abbrev pub row_text : Written → List ℕ
+row_text row = flat_map term_text row.terms ++ codes ">= " ++ signed_decimal row.at_least ++ codes " ;"

@@ -1,0 +1,49 @@
+-- The tokens of a line.
+use Rattle.std.specs.Prelude.{ℕ, Bool, false, true, ◌==◌, ◌&&◌, ◌||◌, if◌then◌else◌, List, [], ◌∷◌, bytes_eq}
+
+-- What stands from a place in a line on: the bytes, if any, of the token that goes on there, and the tokens after it.
+pub record Onward : Type 0 where
+  pub run : List ℕ
+  pub after : List (List ℕ)
+
+abbrev pub led_by : List ℕ → List (List ℕ) → List (List ℕ)
+led_by [] after = after
+led_by (b ∷ run) after = (b ∷ run) ∷ after
+
+abbrev pub all_of : Onward → List (List ℕ)
+all_of onward = led_by onward.run onward.after
+
+-- spaces and tabs separate, and `;` is a token of its own
+abbrev pub is_blank : ℕ → Bool
+is_blank b = b == 32 || b == 9
+
+abbrev pub joined : ℕ → Onward → Onward
+joined b onward =
+    if is_blank b then record { run = []; after = all_of onward }
+    else if b == 59 then record { run = []; after = (b ∷ []) ∷ all_of onward }
+    else record { run = b ∷ onward.run; after = onward.after }
+
+abbrev pub onward_from : List ℕ → Onward
+onward_from [] = record { run = []; after = [] }
+onward_from (b ∷ bytes) = joined b (onward_from bytes)
+
+abbrev pub tokens : List ℕ → List (List ℕ)
+tokens line = all_of (onward_from line)
+
+-- ---- comments
+
+abbrev pub begins_with : ℕ → List ℕ → Bool
+begins_with b [] = false
+begins_with b (c ∷ bytes) = c == b
+
+-- the first token begins with `*`
+abbrev pub is_comment : List (List ℕ) → Bool
+is_comment [] = false
+is_comment (t ∷ ts) = begins_with 42 t
+
+-- the tokens are these words
+abbrev pub are : List (List ℕ) → List (List ℕ) → Bool
+are [] [] = true
+are [] (u ∷ us) = false
+are (t ∷ ts) [] = false
+are (t ∷ ts) (u ∷ us) = bytes_eq t u && are ts us

@@ -1,0 +1,55 @@
+-- What claims and states say of the points that satisfy a formula.
+use Rattle.std.specs.Prelude.{◌≡◌, List, ℕ, ℤ, ◌<ℤ◌, ◌≤ℤ◌, Option, Some, None}
+use Rattle.pb_rows.specs.Points.{Point, value_at}
+use Rattle.pb_rows.specs.Rows.{AllHold}
+use Rattle.pb_rows.specs.Formula.{Formula}
+use Rattle.proof_lines.specs.declared.line.Claim.{Claim}
+use Rattle.proof_lines.specs.declared.line.Claim.TheVariants.{Bounds, Unsat, Nothing}
+use Rattle.proof_lines.specs.declared.line.Line.{Line}
+use Rattle.proof_rules.specs.States.{State, live_rows}
+use Rattle.proof_rules.specs.Valid.{IsValidProof}
+use Rattle.proof_rules.specs.Texts.{IsValidText}
+
+-- ---- claims
+
+-- each point that satisfies the formula has an objective of at least the bound
+abbrev pub IsLowerBound : Formula → Option ℤ → Type 0
+IsLowerBound f None = Unit {0}
+IsLowerBound f (Some l) = (p : Point) → AllHold p f.rows → l ≤ℤ value_at p f.objective
+
+-- some point that satisfies the formula has an objective of at most the bound
+abbrev pub IsUpperBound : Formula → Option ℤ → Type 0
+IsUpperBound f None = Unit {0}
+IsUpperBound f (Some u) = (p : Point) × AllHold p f.rows × (value_at p f.objective ≤ℤ u)
+
+abbrev pub IsTrueClaim : Formula → Claim → Type 0
+IsTrueClaim f (Bounds lower upper) = IsLowerBound f lower × IsUpperBound f upper
+IsTrueClaim f Unsat = (p : Point) → AllHold p f.rows → ⊥
+IsTrueClaim f Nothing = Unit {0}
+
+-- ---- states
+
+-- the value is below the least logged one, or nothing is logged
+abbrev pub IsBelow : Option ℤ → ℤ → Type 0
+IsBelow None v = Unit {0}
+IsBelow (Some w) v = v <ℤ w
+
+-- the logged value is that of a point that satisfies the formula
+abbrev pub IsLogged : Formula → Option ℤ → Type 0
+IsLogged f None = Unit {0}
+IsLogged f (Some w) = (p : Point) × AllHold p f.rows × (value_at p f.objective ≡ w)
+
+-- at each point that satisfies the formula and is better than all logged ones, the live rows hold
+pub record IsSoundState (f : Formula) (s : State) : Type 0 where
+  pub rows_hold : (p : Point) → AllHold p f.rows → IsBelow s.least (value_at p f.objective) → AllHold p (live_rows s)
+  pub logged : IsLogged f s.least
+
+-- ---- all proofs
+
+-- whatever lines are a valid proof, its claim is true
+abbrev pub ProofsAreSound : Type 0
+ProofsAreSound = (f : Formula) (lines : List Line) (claim : Claim) → IsValidProof f lines claim → IsTrueClaim f claim
+
+-- whatever bytes are one
+abbrev pub ProofTextsAreSound : Type 0
+ProofTextsAreSound = (f : Formula) (bytes : List ℕ) (claim : Claim) → IsValidText f bytes claim → IsTrueClaim f claim

@@ -1,0 +1,79 @@
+-- Valid proofs, as bytes.
+use Rattle.std.specs.Prelude.{◌≡◌, ℕ, zero, suc, ◌+◌, ◌==◌, if◌then◌else◌, List, [], ◌∷◌, ◌++◌, map, ◌⊎◌, Option, Some, None}
+use Rattle.pb_rows.specs.Formula.{Formula}
+use Rattle.proof_lines.specs.declared.line.Claim.{Claim}
+use Rattle.proof_lines.specs.declared.line.Line.{Line}
+use Rattle.proof_lines.specs.Spelling.{read_line}
+use Rattle.proof_rules.specs.Refusals.{Refusal, RefusalAt, Syntax}
+use Rattle.proof_rules.specs.Valid.{Place, Start, Done, Moves}
+use Rattle.proof_rules.specs.Refused.{Refuses}
+
+-- ---- the lines of a text
+
+-- the lines that a line feed ends, and the bytes after the last one
+pub record Cut : Type 0 where
+  pub whole : List (List ℕ)
+  pub rest : List ℕ
+
+abbrev pub into_first : ℕ → List ℕ → List (List ℕ) → Cut
+into_first b rest [] = record { whole = []; rest = b ∷ rest }
+into_first b rest (line ∷ lines) = record { whole = (b ∷ line) ∷ lines; rest = rest }
+
+abbrev pub with_byte : ℕ → Cut → Cut
+with_byte b c = if b == 10 then record { whole = [] ∷ c.whole; rest = c.rest } else into_first b c.rest c.whole
+
+abbrev pub cut : List ℕ → Cut
+cut [] = record { whole = []; rest = [] }
+cut (b ∷ bytes) = with_byte b (cut bytes)
+
+-- each line, or None where it has no spelling
+abbrev pub Reading : Type 0
+Reading = List (Option Line)
+
+abbrev pub whole_lines : List ℕ → Reading
+whole_lines bytes = map read_line (cut bytes).whole
+
+abbrev pub last_line : List ℕ → Reading
+last_line [] = []
+last_line (b ∷ bytes) = read_line (b ∷ bytes) ∷ []
+
+-- bytes after the last line feed are one more line
+abbrev pub all_lines : List ℕ → Reading
+all_lines bytes = whole_lines bytes ++ last_line (cut bytes).rest
+
+-- ---- where they lead
+
+abbrev pub Reaches : Formula → Place → Reading → Place → Type 0
+Reaches f here [] there = here ≡ there
+Reaches f here (None ∷ lines) there = ⊥
+Reaches f here (Some line ∷ lines) there = (next : Place) × Moves f here line next × Reaches f next lines there
+
+-- the line with n lines before it is the first that is refused
+abbrev pub Stops : Formula → Place → Reading → ℕ → Refusal → Type 0
+Stops f here [] n why = ⊥
+Stops f here (None ∷ lines) zero why = why ≡ Syntax
+Stops f here (None ∷ lines) (suc n) why = ⊥
+Stops f here (Some line ∷ lines) zero why = Refuses f here line why
+Stops f here (Some line ∷ lines) (suc n) why = (next : Place) × Moves f here line next × Stops f next lines n why
+
+-- ---- verdicts
+
+abbrev pub IsValidText : Formula → List ℕ → Claim → Type 0
+IsValidText f bytes claim = Reaches f Start (all_lines bytes) (Done claim)
+
+-- The line with n lines before it is refused. Bytes after the last line feed are refused only after the end line.
+abbrev pub IsRefusedText : Formula → List ℕ → ℕ → Refusal → Type 0
+IsRefusedText f bytes n why =
+    Stops f Start (whole_lines bytes) n why
+    ⊎ ((claim : Claim) × Reaches f Start (whole_lines bytes) (Done claim) × Stops f Start (all_lines bytes) n why)
+
+-- the same with the line's number
+abbrev pub IsRefusedAt : Formula → List ℕ → RefusalAt → Type 0
+IsRefusedAt f bytes refusal = (n : ℕ) × (refusal.line ≡ n + 1) × IsRefusedText f bytes n refusal.why
+
+-- all whole lines are steps, and the bytes end before the end line
+pub record IsTruncated (f : Formula) (bytes : List ℕ) : Type 0 where
+  pub here : Place
+  pub reaches : Reaches f Start (whole_lines bytes) here
+  pub not_done : (claim : Claim) → here ≡ Done claim → ⊥
+  pub not_ended : (claim : Claim) → IsValidText f bytes claim → ⊥

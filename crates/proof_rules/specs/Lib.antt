@@ -6,3 +6,5 @@ pub mod Valid
 pub mod Refused
 pub mod Texts
 pub mod Sound
+pub mod Held
+pub mod Notes

@@ -1,9 +1,14 @@
 mod Cuts
 mod Listed
 mod OneSided
+mod RankOrder
+mod RowCounts
 mod RowsGrow
 mod RowsMade
 mod TablesMade
+mod TermRows
+mod TermSums
+mod TermTotal
 mod Turning
 mod Worked
 pub mod Below

@@ -20,4 +20,5 @@ pub mod Ranks
 pub mod SamePairs
 pub mod StablePairs
 pub mod TableFacts
+pub mod TermBound
 pub mod Unique

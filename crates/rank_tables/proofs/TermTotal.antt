@@ -33,10 +33,10 @@ is_number lists p h =
     let both = and_parts (nat_le 1 p) (nat_le p (pair_count lists)) (sym (is_in-numbers_to (pair_count lists) p) ∙ h) in
     (leb-true _ _ both.0, leb-true _ _ both.1)
 
-residents_within : (lists : Lists) → list_all (λ p. nat_lt ((pair_at lists p).resident) (length lists.residents)) (numbers_to (pair_count lists)) ≡ true
+pub residents_within : (lists : Lists) → list_all (λ p. nat_lt ((pair_at lists p).resident) (length lists.residents)) (numbers_to (pair_count lists)) ≡ true
 residents_within lists = all_from _ _ (λ p h. lt-ltb _ _ (pair_at-acceptable lists p (is_number lists p h)).resident_declared)
 
-hospitals_within : (lists : Lists) → list_all (λ p. nat_lt ((pair_at lists p).hospital) (length lists.hospitals)) (numbers_to (pair_count lists)) ≡ true
+pub hospitals_within : (lists : Lists) → list_all (λ p. nat_lt ((pair_at lists p).hospital) (length lists.hospitals)) (numbers_to (pair_count lists)) ≡ true
 hospitals_within lists = all_from _ _ (λ p h. lt-ltb _ _ (pair_at-acceptable lists p (is_number lists p h)).hospital_declared)
 
 -- the rows of both sides

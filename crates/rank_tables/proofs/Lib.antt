@@ -1,9 +1,14 @@
 mod Cuts
 mod Listed
 mod OneSided
+mod RankOrder
+mod RowCounts
 mod RowsGrow
 mod RowsMade
 mod TablesMade
+mod TermRows
+mod TermSums
+mod TermTotal
 mod Turning
 mod Worked
 pub mod Below
@@ -15,4 +20,5 @@ pub mod Ranks
 pub mod SamePairs
 pub mod StablePairs
 pub mod TableFacts
+pub mod TermBound
 pub mod Unique

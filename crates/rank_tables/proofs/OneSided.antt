@@ -82,7 +82,7 @@ listed-count lists h (r ∷ rs) named =
 pub hospitals-side : (lists : Lists) (h : ℕ) → count_by (λ r. not (resident_names lists r h)) (concat (groups_of_hospital lists h)) + length (pairs_as_listed lists h) ≡ length (concat (groups_of_hospital lists h))
 hospitals-side lists h = listed-count lists h (concat (groups_of_hospital lists h)) (All-is_in (concat (groups_of_hospital lists h)))
 
-sum_same : (f g : ℕ → ℕ) (n : ℕ) → ((k : ℕ) → k < n → f k ≡ g k) → sum_by f (below n) ≡ sum_by g (below n)
+pub sum_same : (f g : ℕ → ℕ) (n : ℕ) → ((k : ℕ) → k < n → f k ≡ g k) → sum_by f (below n) ≡ sum_by g (below n)
 sum_same f g zero e = refl
 sum_same f g (suc n) e =
     omega (arith, sum_by_push f (below n) n, sum_by_push g (below n) n, sum_same f g n (λ k l. e k (omega arith)), e n (omega arith))

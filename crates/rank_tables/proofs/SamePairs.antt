@@ -145,7 +145,7 @@ distinct_listed lists h (r ∷ rs) d =
 pub listed-distinct : (lists : Lists) → IsWellFormed lists → (h : ℕ) → is_distinct (pairs_as_listed lists h) ≡ true
 listed-distinct lists w h = distinct_listed lists h (concat (groups_of_hospital lists h)) ((hospital_ranked lists w h).distinct)
 
-filter-le : (test : ℕ → Bool) (xs : List ℕ) → length (filter test xs) ≤ length xs
+pub filter-le : (test : ℕ → Bool) (xs : List ℕ) → length (filter test xs) ≤ length xs
 filter-le test [] = omega arith
 filter-le test (x ∷ xs) = elim (cases_Bool (test x)) [
   | inl kept ↦ rw kept (omega (arith, filter-le test xs))

@@ -4,6 +4,7 @@ use Rattle.rank_tables.specs.declared.draft.DraftResident.{DraftResident}
 use Rattle.rank_tables.specs.declared.draft.DraftHospital.{DraftHospital}
 use Rattle.rank_tables.specs.Numbers.{numbers_to}
 use Rattle.rank_tables.specs.Instance.{Lists, pair_no, pairs, pair_count, rank_by_resident, rank_by_hospital, pairs_of_resident, pairs_of_hospital, pairs_as_listed, one_sided}
+use Rattle.rank_tables.specs.Terms.{model_terms}
 use Rattle.rank_tables.specs.Stability.{is_weakly_stable, blocks}
 use Rattle.rank_tables.specs.WellFormed.{IsWellFormed, is_list}
 
@@ -45,6 +46,9 @@ tied-y_blocked = refl
 
 pub tied-none : blocks tied [] 1 ≡ true
 tied-none = refl
+
+pub tied-terms : model_terms tied ≡ 12
+tied-terms = refl
 
 -- ---- the same with no tie: x ranks a above b, so a and x block whatever keeps them apart
 abbrev pub strict : Lists

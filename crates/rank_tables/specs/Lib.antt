@@ -7,3 +7,4 @@ pub mod WellFormed
 pub mod Tables
 pub mod Building
 pub mod Terms
+pub mod Counting

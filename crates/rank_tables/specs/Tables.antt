@@ -4,7 +4,8 @@ use Rattle.hrt_base.specs.declared.numbered.PairNo.{PairNo}
 use Rattle.rank_tables.specs.declared.entry.PairEntry.{PairEntry}
 use Rattle.rank_tables.specs.Numbers.{below, numbers_to}
 use Rattle.rank_tables.specs.Instance.{Lists, pair_count, pair_at, rank_by_resident, rank_by_hospital, pairs_of_resident, pairs_as_listed, one_sided}
-use Rattle.rank_tables.specs.WellFormed.{IsWellFormed, most_pairs}
+use Rattle.rank_tables.specs.Terms.{model_terms}
+use Rattle.rank_tables.specs.WellFormed.{IsWellFormed, most_pairs, most_terms}
 
 -- p is the number of a pair
 abbrev pub IsPairNo : Lists → ℕ → Type 0
@@ -40,3 +41,9 @@ pub record AreTables (lists : Lists) (entries : List PairEntry) (by_resident by_
   pub residents_are : map numbers_of by_resident ≡ map (pairs_of_resident lists) (below (length lists.residents))
   pub hospitals_are : map numbers_of by_hospital ≡ map (pairs_as_listed lists) (below (length lists.hospitals))
   pub unanswered_is : unanswered ≡ one_sided lists
+
+-- The tables, and the count of the model's terms, which is within the limit.
+pub record IsKept (lists : Lists) (entries : List PairEntry) (by_resident by_hospital : List (List PairNo)) (unanswered terms : ℕ) : Type 0 where
+  pub tables : AreTables lists entries by_resident by_hospital unanswered
+  pub terms_are : terms ≡ model_terms lists
+  pub few_terms : model_terms lists ≤ most_terms

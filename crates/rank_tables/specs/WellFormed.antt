@@ -5,7 +5,7 @@ use Rattle.rank_tables.specs.Names.{is_name, are_apart}
 use Rattle.rank_tables.specs.Numbers.{is_distinct}
 use Rattle.rank_tables.specs.Instance.{Lists}
 
--- the most residents, hospitals, posts of one hospital, and acceptable pairs
+-- the most residents, hospitals, posts of one hospital, acceptable pairs, and terms of the 0/1 model
 abbrev pub most_residents : ℕ
 most_residents = 20000
 
@@ -17,6 +17,9 @@ most_capacity = 20000
 
 abbrev pub most_pairs : ℕ
 most_pairs = 100000
+
+abbrev pub most_terms : ℕ
+most_terms = 8000000
 
 abbrev pub names_of_residents : Lists → List (List ℕ)
 names_of_residents lists = map (λ r. r.name) lists.residents

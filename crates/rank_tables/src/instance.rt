@@ -2,15 +2,19 @@
 ghost use Rattle.std.specs.Prelude.{◌≡◌, ℕ, IsTrue, ◌+◌, ◌<◌, ◌≤◌, length, map, All, option_map, slice_get, nat_lt, Some, IfSome, is_some, ◌&&◌, IfOk, IsOk, IfErr};
 ghost use Rattle.rank_tables.specs.Instance.{Lists, lists_of, pair_count, pair_at, pair_no, rank_by_resident, rank_by_hospital, pairs_of_resident, pairs_of_hospital, pairs_as_listed, one_sided, capacity_of, groups_of_resident, groups_of_hospital, resident_names, hospital_names};
 ghost use Rattle.rank_tables.specs.Numbers.{is_in, is_distinct};
-ghost use Rattle.rank_tables.specs.WellFormed.{IsWellFormed, names_of_residents, names_of_hospitals, most_residents, most_hospitals, most_capacity, most_pairs};
+ghost use Rattle.rank_tables.specs.WellFormed.{IsWellFormed, names_of_residents, names_of_hospitals, most_residents, most_hospitals, most_capacity, most_pairs, most_terms};
 ghost use Rattle.rank_tables.specs.Tables.{IsPairNo, IsOfResident, IsOfHospital, numbers_of, entry_of};
+ghost use Rattle.rank_tables.specs.Terms.{model_terms};
 
 use crate::entry::PairEntry;
 use crate::tables::{Tables, tables_of};
+use crate::terms::terms_of;
 use crate::{BuildRefusal, Draft, DraftHospital, DraftResident, Groups, Name};
 use hrt_base::PairNo;
 use std::alloc::Global;
 use std::marker::Model;
+
+const MOST_TERMS: u64 = 8_000_000;
 
 /// An instance, seen as its written lists. Residents and hospitals are numbered from 0, pairs from 1.
 #[derive(Debug, Drop)]
@@ -18,39 +22,48 @@ pub struct Instance {
     residents: Vec<DraftResident>,
     hospitals: Vec<DraftHospital>,
     tables: Tables,
+    terms: u32,
 }
 
 impl Model for Instance {
     ghost use Rattle.rank_tables.specs.Instance.{Lists};
-    ghost use Rattle.rank_tables.specs.Tables.{AreTables};
+    ghost use Rattle.rank_tables.specs.Tables.{IsKept};
     ghost use Rattle.rank_tables.specs.Building.{rows_of};
 
     ghost Value = { Lists };
 
     ghost view = { λ i. record { residents = i.residents.items; hospitals = i.hospitals.items } };
 
-    ghost invariant = { λ i. AreTables (record { residents = i.residents.items; hospitals = i.hospitals.items })
-        i.tables.entries.items (rows_of i.tables.by_resident.items) (rows_of i.tables.by_hospital.items) i.tables.unanswered };
+    ghost invariant = { λ i. IsKept (record { residents = i.residents.items; hospitals = i.hospitals.items })
+        i.tables.entries.items (rows_of i.tables.by_resident.items) (rows_of i.tables.by_hospital.items) i.tables.unanswered i.terms };
 }
 
 impl Instance {
-    /// The instance of a draft. `TooManyPairs` is answered from 100,001 acceptable pairs on. The time grows linearly with
-    /// the number of namings.
+    /// The instance of a draft. `TooManyPairs` is answered from 100,001 acceptable pairs on, and with fewer `TooManyTerms`
+    /// from 8,000,001 terms of the 0/1 model on. The time grows linearly with the number of namings.
     pub fn build(alloc: Global, draft: Draft) -> Result<Instance, BuildRefusal>
         requires { IsWellFormed (lists_of draft) }
         ensures ok { IfOk result (λ instance. instance ≡ lists_of draft) }
         ensures few { IsOk result → pair_count (lists_of draft) ≤ most_pairs }
+        ensures few_terms { IsOk result → model_terms (lists_of draft) ≤ most_terms }
         ensures too_many { IfErr result (λ refusal. refusal ≡ BuildRefusal.TooManyPairs → most_pairs < pair_count (lists_of draft)) }
+        ensures too_many_terms { IfErr result (λ refusal. refusal ≡ BuildRefusal.TooManyTerms
+            → (pair_count (lists_of draft) ≤ most_pairs) × (most_terms < model_terms (lists_of draft))) }
     {
+        let tables = tables_of(alloc, &draft.residents, &draft.hospitals)?;
+        let terms = terms_of(&draft, &tables);
+        if terms > MOST_TERMS {
+            return Err(BuildRefusal::TooManyTerms);
+        }
         let Draft {
             residents,
             hospitals,
         } = draft;
-        let tables = tables_of(alloc, &residents, &hospitals)?;
         Ok(Instance {
             residents,
             hospitals,
             tables,
+            terms: terms as u32,
         })
     }
 
@@ -85,6 +98,14 @@ impl Instance {
         ensures { result ≡ one_sided self.now }
     {
         self.tables.unanswered
+    }
+
+    /// How many terms the rows of the 0/1 model of the instance have together.
+    pub fn model_terms(&self) -> u32
+        ensures count { result ≡ model_terms self.now }
+        ensures few { result ≤ most_terms }
+    {
+        self.terms
     }
 
     /// How many posts hospital h has. It may be none.

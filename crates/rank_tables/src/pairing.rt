@@ -1,6 +1,6 @@
 // The acceptable pairs, by resident: the hospitals' lists are turned round once, and each resident's list is then walked
 // beside a table of the ranks that hospitals give the resident.
-ghost use Rattle.std.specs.Prelude.{◌≡◌, ◌+◌, ◌<◌, ◌≤◌, ◌++◌, [], ◌∷◌, ℕ, length, flat_map, All, IsTrue, IfOk, IfErr, OnOk, slice_index};
+ghost use Rattle.std.specs.Prelude.{◌≡◌, ◌≢◌, ◌+◌, ◌<◌, ◌≤◌, ◌++◌, [], ◌∷◌, ℕ, length, flat_map, All, IsTrue, IfOk, IfErr, OnOk, slice_index};
 ghost use Rattle.std.specs.List.{list_all};
 ghost use Rattle.rank_tables.specs.Numbers.{below};
 ghost use Rattle.rank_tables.specs.WellFormed.{is_list, most_residents, most_hospitals, most_pairs};
@@ -67,6 +67,7 @@ pub fn pair_entries(
     ensures few { IfOk result (λ entries. length entries.items ≤ most_pairs) }
     ensures too_many { IfErr result (λ refusal. refusal ≡ BuildRefusal.TooManyPairs → most_pairs
         < length (flat_map (λ r. answered r (resident_groups residents.now r) (row_at named_by.now r)) (below (length residents.now)))) }
+    ensures no_terms { IfErr result (λ refusal. refusal ≢ BuildRefusal.TooManyTerms) }
 {
     let mut entries = Vec::new(alloc);
     let mut ranks = vec![in alloc; 0u32; hospitals]?;
@@ -102,6 +103,7 @@ fn add_resident(
     ensures zero { OnOk result ((i : ℕ) → slice_index ranks.new i ≡ 0) }
     ensures too_many { IfErr result (λ refusal. refusal ≡ BuildRefusal.TooManyPairs → most_pairs
         < length entries.old.items + length (answered resident groups.now namings.now)) }
+    ensures no_terms { IfErr result (λ refusal. refusal ≢ BuildRefusal.TooManyTerms) }
 {
     let list = ranked(alloc, groups)?;
     stamp(ranks, namings);
@@ -123,6 +125,7 @@ fn add_pairs(
     ensures few { OnOk result (length entries.new.items ≤ most_pairs) }
     ensures too_many { IfErr result (λ refusal. refusal ≡ BuildRefusal.TooManyPairs → most_pairs
         < length entries.old.items + length (found resident list.now ranks.now)) }
+    ensures no_terms { IfErr result (λ refusal. refusal ≢ BuildRefusal.TooManyTerms) }
 {
     for m in list {
         let rank = ranks[m.number as usize];
@@ -145,6 +148,7 @@ fn add_pair(entries: &mut Vec<PairEntry>, entry: PairEntry) -> Result<(), BuildR
     ensures ok { OnOk result (entries.new.items ≡ entries.old.items ++ entry ∷ []) }
     ensures few { OnOk result (length entries.new.items ≤ most_pairs) }
     ensures too_many { IfErr result (λ refusal. refusal ≡ BuildRefusal.TooManyPairs → length entries.old.items ≡ most_pairs) }
+    ensures no_terms { IfErr result (λ refusal. refusal ≢ BuildRefusal.TooManyTerms) }
 {
     if entries.len() == MOST_PAIRS {
         return Err(BuildRefusal::TooManyPairs);

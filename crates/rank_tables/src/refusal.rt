@@ -10,6 +10,8 @@ use thiserror::Error;
 pub enum BuildRefusal {
     #[error("there are more than 100,000 acceptable pairs")]
     TooManyPairs,
+    #[error("the 0/1 model has more than 8,000,000 terms")]
+    TooManyTerms,
     #[error("out of memory")]
     NoMemory,
 }

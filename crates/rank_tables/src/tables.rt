@@ -1,5 +1,5 @@
 // The tables of an instance, made from its lists.
-ghost use Rattle.std.specs.Prelude.{◌≡◌, ◌<◌, ◌≤◌, map, length, IfOk, IfErr};
+ghost use Rattle.std.specs.Prelude.{◌≡◌, ◌≢◌, ◌<◌, ◌≤◌, map, length, IfOk, IfErr};
 ghost use Rattle.rank_tables.specs.Numbers.{numbers_to};
 ghost use Rattle.rank_tables.specs.Instance.{Lists, pair_count};
 ghost use Rattle.rank_tables.specs.WellFormed.{IsWellFormed, most_pairs};
@@ -33,6 +33,7 @@ pub fn tables_of(
     requires { IsWellFormed (both residents.now hospitals.now) }
     ensures ok { IfOk result (λ t. AreTables (both residents.now hospitals.now) t.entries.items (rows_of t.by_resident.items) (rows_of t.by_hospital.items) t.unanswered) }
     ensures too_many { IfErr result (λ refusal. refusal ≡ BuildRefusal.TooManyPairs → most_pairs < pair_count (both residents.now hospitals.now)) }
+    ensures no_terms { IfErr result (λ refusal. refusal ≢ BuildRefusal.TooManyTerms) }
 {
     let entries = entries_of(alloc, residents, hospitals)?;
     let tables = with_rows(alloc, residents, hospitals, entries)?;
@@ -50,6 +51,7 @@ fn entries_of(
         ≡ map (entry_of (both residents.now hospitals.now)) (numbers_to (pair_count (both residents.now hospitals.now)))) }
     ensures few { IfOk result (λ entries. length entries.items ≤ most_pairs) }
     ensures too_many { IfErr result (λ refusal. refusal ≡ BuildRefusal.TooManyPairs → most_pairs < pair_count (both residents.now hospitals.now)) }
+    ensures no_terms { IfErr result (λ refusal. refusal ≢ BuildRefusal.TooManyTerms) }
 {
     let named_by = namings(alloc, hospitals, residents.len())?;
     pair_entries(alloc, residents, hospitals.len(), &named_by)

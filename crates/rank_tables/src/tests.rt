@@ -1,5 +1,5 @@
 //! Each public call once, with ample memory.
-ghost use Rattle.std.specs.Prelude.{◌≡◌, [], ◌∷◌, true, false, length, IfOk};
+ghost use Rattle.std.specs.Prelude.{◌≡◌, ◌≤◌, [], ◌∷◌, true, false, length, IfOk};
 ghost use Rattle.rank_tables.specs.Instance.{pair_count};
 
 use crate::{Draft, DraftHospital, DraftResident, Groups, Instance, Name};
@@ -114,6 +114,7 @@ fn counts_and_lists(rt: HostRuntime) -> Result<(), Fail> {
     assert_eq!(rt; instance.hospitals(), 3);
     assert_eq!(rt; instance.pairs(), 6);
     assert_eq!(rt; instance.one_sided(), 1);
+    assert_eq!(rt; instance.model_terms(), 28);
     assert_eq!(rt; instance.capacity(1), 2);
     assert_eq!(rt; instance.resident_name(2).bytes(), b"c".as_slice());
     assert_eq!(rt; instance.hospital_name(2).bytes(), b"z".as_slice());
@@ -161,5 +162,64 @@ fn preferences(rt: HostRuntime) -> Result<(), Fail> {
         !instance.hospital_prefers(PairNo(5), PairNo(1)),
         "a and b are tied"
     );
+    Ok(())
+}
+
+// a: y x, b: y x
+fn two_residents(alloc: Global) -> Result<Vec<DraftResident>, NoMemory>
+    ensures { IfOk result (λ residents. residents.items
+        ≡ record { name = 97 ∷ []; groups = (1 ∷ []) ∷ (0 ∷ []) ∷ [] } ∷ record { name = 98 ∷ []; groups = (1 ∷ []) ∷ (0 ∷ []) ∷ [] } ∷ []) }
+{
+    let mut residents = Vec::new(alloc);
+    residents.push(DraftResident {
+        name: Name::new(alloc, b"a".as_slice())?,
+        groups: list_of(alloc, 1, 0, false)?,
+    })?;
+    residents.push(DraftResident {
+        name: Name::new(alloc, b"b".as_slice())?,
+        groups: list_of(alloc, 1, 0, false)?,
+    })?;
+    Ok(residents)
+}
+
+// x with so many posts: (a b), y 1: a b
+fn two_hospitals(alloc: Global, capacity: u32) -> Result<Vec<DraftHospital>, NoMemory>
+    ensures { IfOk result (λ hospitals. hospitals.items
+        ≡ record { name = 120 ∷ []; capacity = capacity; groups = (0 ∷ 1 ∷ []) ∷ [] }
+        ∷ record { name = 121 ∷ []; capacity = 1; groups = (0 ∷ []) ∷ (1 ∷ []) ∷ [] } ∷ []) }
+{
+    let mut hospitals = Vec::new(alloc);
+    hospitals.push(DraftHospital {
+        name: Name::new(alloc, b"x".as_slice())?,
+        capacity,
+        groups: list_of(alloc, 0, 1, true)?,
+    })?;
+    hospitals.push(DraftHospital {
+        name: Name::new(alloc, b"y".as_slice())?,
+        capacity: 1,
+        groups: list_of(alloc, 0, 1, false)?,
+    })?;
+    Ok(hospitals)
+}
+
+// The terms of that instance.
+fn terms_with_posts(alloc: Global, capacity: u32) -> Result<u32, Fail>
+    requires { capacity ≤ 20000 }
+{
+    let draft = Draft {
+        residents: two_residents(alloc)?,
+        hospitals: two_hospitals(alloc, capacity)?,
+    };
+    let instance = Instance::build(alloc, draft)?;
+    Ok(instance.model_terms())
+}
+
+// Each row of a resident and of a hospital has 2 terms. The pairs are 1 (a y), 2 (a x), 3 (b y), 4 (b x): without a post at x
+// their own rows have the pairs 1, 2 4, 1 3, 2 4, and with one or two the second has also 1 and the fourth 3.
+#[test]
+fn terms(rt: HostRuntime) -> Result<(), Fail> {
+    assert_eq!(rt; terms_with_posts(rt.alloc(), 0)?, 15);
+    assert_eq!(rt; terms_with_posts(rt.alloc(), 1)?, 17);
+    assert_eq!(rt; terms_with_posts(rt.alloc(), 2)?, 17);
     Ok(())
 }

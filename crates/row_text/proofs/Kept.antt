@@ -1,7 +1,6 @@
 -- What a reading says of what was read.
-use Rattle.std.proofs.Common.{◌≡◌, Bool, true, false, Option, Some, None, refl, ap, if◌then◌else◌}
+use Rattle.std.proofs.Common.{◌≡◌, Bool, true, false, Option, Some, None, refl, if◌then◌else◌}
 use Rattle.std.specs.Prelude.{is_some}
-use Rattle.row_text.specs.declared.readings.Reading.{Reading}
 use Rattle.row_text.specs.declared.readings.Reading.TheVariants.{Unspelled, TooBig, Value}
 use Rattle.row_text.specs.Readings.{is_spelled, reading}
 

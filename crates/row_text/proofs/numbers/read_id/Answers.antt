@@ -1,10 +1,10 @@
-use Rattle.std.proofs.Common.{◌≡◌, ◌<◌, ◌≤◌, ◌^◌, Bool, true, false, ℕ, List, length, min, nat_le, Option, Some, None, if◌then◌else◌, sym, refl, ap, ◌∙◌, arith, [], ◌∷◌, ◌==◌}
+use Rattle.std.proofs.Common.{◌≡◌, ◌≤◌, ◌^◌, Bool, true, false, ℕ, List, length, min, Some, None, if◌then◌else◌, refl, ap, ◌∙◌, arith, [], ◌∷◌, ◌==◌}
 use Rattle.std.specs.Prelude.{option_map}
 use Rattle.std.specs.Str.{all_ascii_digits}
 use Rattle.std.specs.Str.Parse.{digits_value}
 use Rattle.std.proofs.lemmas.Bool.{le-leb}
 use Rattle.std.proofs.lemmas.Str.Parse.{IsNumeralModel, numerals_by_value, tells_all_ascii_digits, digits_value_short}
-use Rattle.row_text.specs.Numbers.{read_digits, read_id, read_positive}
+use Rattle.row_text.specs.Numbers.{read_digits, read_positive}
 use Rattle.row_text.proofs.numbers.read_id.Goals as goal
 
 own : IsNumeralModel (λ ds. all_ascii_digits ds ≡ true) (digits_value 10)

@@ -1,5 +1,5 @@
-use Rattle.std.proofs.Common.{◌≡◌, [], ◌∷◌, ◌++◌, ℕ, List, Bool, sym, ap, ◌∙◌, false, true, rules}
-use Rattle.std.specs.Prelude.{is_some, codes, bytes_eq, option_map, ℤ, if◌then◌else◌}
+use Rattle.std.proofs.Common.{◌≡◌, ◌∷◌, ℕ, List, sym, ap, ◌∙◌, false, true}
+use Rattle.std.specs.Prelude.{is_some, codes, bytes_eq}
 use Rattle.row_text.specs.Rows.{read_row}
 use Rattle.row_text.specs.Readings.{is_spelled}
 use Rattle.row_text.specs.Tokens.{tokens}

@@ -1,7 +1,6 @@
 use Rattle.std.proofs.Common.{◌≡◌, [], ◌∷◌, ◌++◌, ℕ, List, Bool, sym, ap, ◌∙◌, false, true, rules}
-use Rattle.std.specs.Prelude.{is_some, codes, bytes_eq, option_map, ℤ, if◌then◌else◌}
+use Rattle.std.specs.Prelude.{codes, bytes_eq, option_map, ℤ, if◌then◌else◌}
 use Rattle.row_text.specs.Rows.{read_row}
-use Rattle.row_text.specs.Readings.{is_spelled}
 use Rattle.row_text.specs.Tokens.{tokens}
 use mir.Val.{SFits}
 use Rattle.std.specs.Int.{w128}
@@ -33,8 +32,8 @@ returns-then-eq c =
     ap (closed ts) c.read_right.ensures ∙ row_closed _ ts t u rest whole test c.loop-first.invariant.small in
     elim c.match-read_right.branch [
       | in-Value w ↦
-        let fits : SFits w128 w.in-Value.at_least = search rules in
-        w.result-is ∙ ap (λ (n : ℤ). Value (row_of ts n)) (to_z-of_z w128 w.in-Value.at_least fits) ∙ ap (closed ts) (sym w.in-Value.is) ∙ end
+          let fits : SFits w128 w.in-Value.at_least = search rules in
+          w.result-is ∙ ap (λ (n : ℤ). Value (row_of ts n)) (to_z-of_z w128 w.in-Value.at_least fits) ∙ ap (closed ts) (sym w.in-Value.is) ∙ end
       | in-TooBig w ↦ w.result-is ∙ ap (closed ts) (sym w.in-TooBig.is) ∙ end
       | in-Unspelled w ↦ w.result-is ∙ ap (closed ts) (sym w.in-Unspelled.is) ∙ end
     ]

@@ -1,8 +1,8 @@
 -- The tokens of a line, one after the other.
 use Rattle.std.proofs.Common.{◌≡◌, ℕ, zero, suc, ◌+◌, ◌<◌, ◌≤◌, Bool, true, false, ◌||◌, eqb, List, [], ◌∷◌, ◌++◌, length, get_or, take, drop, refl, sym, ap, subst, ◌∙◌, append_assoc, arith, if◌then◌else◌}
-use Rattle.std.proofs.lemmas.Bool.{or_parts, eq-eqb}
+use Rattle.std.proofs.lemmas.Bool.{or_parts}
 use Rattle.std.proofs.lemmas.List.{drop_more, take_more, append-nil, drop_all}
-use Rattle.row_text.specs.Tokens.{Onward, all_of, is_blank, joined, onward_from, tokens}
+use Rattle.row_text.specs.Tokens.{Onward, all_of, is_blank, onward_from, tokens}
 
 -- a byte at which no word goes on
 abbrev pub is_apart : ℕ → Bool

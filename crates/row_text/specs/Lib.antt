@@ -1,3 +1,4 @@
 pub mod Tokens
 pub mod Numbers
+pub mod Readings
 pub mod Rows

@@ -12,10 +12,14 @@ use Rattle.row_text.specs.Numbers.{both, is_small, read_literal, read_number}
 abbrev pub read_term : List ℕ → List ℕ → Option Term
 read_term number literal = both (λ c l. record { coef = c; lit = l }) (read_number number) (read_literal literal)
 
+-- the number behind `>=`, and `;` as the last token
+abbrev pub read_right : List ℕ → List (List ℕ) → Option ℤ
+read_right number [] = None
+read_right number (t ∷ []) = if bytes_eq t (codes ";") then read_number number else None
+read_right number (t ∷ u ∷ ts) = None
+
 abbrev pub row_end : List ℕ → List (List ℕ) → Option Written
-row_end number [] = None
-row_end number (t ∷ []) = if bytes_eq t (codes ";") then option_map (λ n. record { terms = []; at_least = n }) (read_number number) else None
-row_end number (t ∷ u ∷ ts) = None
+row_end number ts = option_map (λ n. record { terms = []; at_least = n }) (read_right number ts)
 
 abbrev pub with_term : Term → Written → Written
 with_term t row = record { terms = t ∷ row.terms; at_least = row.at_least }
@@ -25,9 +29,12 @@ read_row [] = None
 read_row (t ∷ []) = None
 read_row (t ∷ u ∷ ts) = if bytes_eq t (codes ">=") then row_end u ts else both with_term (read_term t u) (read_row ts)
 
--- every number of the row is within 2^120
+-- every number is within 2^120
+abbrev pub is_small_term : Term → Bool
+is_small_term t = is_small t.coef
+
 abbrev pub is_small_row : Written → Bool
-is_small_row row = list_all (λ (t : Term). is_small t.coef) row.terms && is_small row.at_least
+is_small_row row = list_all is_small_term row.terms && is_small row.at_least
 
 -- ---- written: every coefficient with its sign, the right side with one only where it is negative
 

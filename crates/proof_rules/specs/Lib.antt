@@ -8,3 +8,4 @@ pub mod Texts
 pub mod Sound
 pub mod Held
 pub mod Notes
+pub mod Told

@@ -1,5 +1,7 @@
 -- What claims and states say of the points that satisfy a formula.
-use Rattle.std.specs.Prelude.{◌≡◌, List, ℕ, ℤ, ◌<ℤ◌, ◌≤ℤ◌, Option, Some, None}
+use Rattle.std.specs.Prelude.{◌≡◌, List, [], ◌∷◌, All, ℕ, ℤ, pos, ◌<ℤ◌, ◌≤ℤ◌, Option, Some, None}
+use Rattle.hrt_base.specs.declared.literal.Term.{Term}
+use Rattle.pb_rows.specs.Terms.{IsRisingFrom, PlainRow}
 use Rattle.pb_rows.specs.Points.{Point, value_at}
 use Rattle.pb_rows.specs.Rows.{AllHold}
 use Rattle.pb_rows.specs.Formula.{Formula}
@@ -39,17 +41,30 @@ abbrev pub IsLogged : Formula → Option ℤ → Type 0
 IsLogged f None = Unit {0}
 IsLogged f (Some w) = (p : Point) × AllHold p f.rows × (value_at p f.objective ≡ w)
 
+-- no coefficient of the row is negative
+abbrev pub AreUnsigned : List Term → Type 0
+AreUnsigned [] = Unit {0}
+AreUnsigned (t ∷ ts) = (pos 0 ≤ℤ t.coef) × AreUnsigned ts
+
+abbrev pub IsUnsigned : PlainRow → Type 0
+IsUnsigned row = AreUnsigned row.terms
+
 -- at each point that satisfies the formula and is better than all logged ones, the live rows hold
 pub record IsSoundState (f : Formula) (s : State) : Type 0 where
   pub rows_hold : (p : Point) → AllHold p f.rows → IsBelow s.least (value_at p f.objective) → AllHold p (live_rows s)
   pub logged : IsLogged f s.least
+  pub unsigned : All IsUnsigned (live_rows s)
 
 -- ---- all proofs
 
+-- the formula's rows are in normal form: positive coefficients, and variables that rise
+abbrev pub HasNormalRows : Formula → Type 0
+HasNormalRows f = All (λ row. IsRisingFrom 0 row.terms) f.rows
+
 -- whatever lines are a valid proof, its claim is true
 abbrev pub ProofsAreSound : Type 0
-ProofsAreSound = (f : Formula) (lines : List Line) (claim : Claim) → IsValidProof f lines claim → IsTrueClaim f claim
+ProofsAreSound = (f : Formula) (lines : List Line) (claim : Claim) → HasNormalRows f → IsValidProof f lines claim → IsTrueClaim f claim
 
 -- whatever bytes are one
 abbrev pub ProofTextsAreSound : Type 0
-ProofTextsAreSound = (f : Formula) (bytes : List ℕ) (claim : Claim) → IsValidText f bytes claim → IsTrueClaim f claim
+ProofTextsAreSound = (f : Formula) (bytes : List ℕ) (claim : Claim) → HasNormalRows f → IsValidText f bytes claim → IsTrueClaim f claim

@@ -1,5 +1,19 @@
-//! The rules of proofs: what each line makes of the live rows, what a proof shows, and which bytes are a valid proof.
+//! The rules of pseudo-Boolean proofs: what each line makes of the live rows, what a state shows, which bytes are a valid
+//! proof of a formula, and which rows the notes of a proof hold. Everything stands in `specs/`; a function here has an
+//! empty body, and its contract is a law over them.
 #![tactic(auto)]
 
-/// Nothing yet.
-pub fn rules() {}
+ghost use Rattle.proof_rules.specs.Sound.{ProofTextsAreSound, ProofsAreSound};
+
+/// Whatever lines are a valid proof of a formula, its claim is true: no point that satisfies the formula passes the lower
+/// bound, and one reaches the upper bound.
+#[tactic(auto, using(crate::proofs::Soundness::proofs_sound))]
+pub fn proofs_are_sound()
+    ensures { ProofsAreSound }
+{}
+
+/// The same of all bytes.
+#[tactic(auto, using(crate::proofs::Verdicts::texts_sound))]
+pub fn proof_texts_are_sound()
+    ensures { ProofTextsAreSound }
+{}

@@ -1,0 +1,84 @@
+-- What the lines of a proof tell: where they lead, which rows are held on the way, and the notes between them.
+use Rattle.std.specs.Prelude.{◌≡◌, ℕ, List, [], ◌∷◌, ◌++◌, Option, Some, None, Result, Ok, Err, All}
+use Rattle.pb_rows.specs.Formula.{Formula, NumberedRow}
+use Rattle.rank_tables.specs.Instance.{Lists}
+use Rattle.stability_model.specs.Model.{formula}
+use Rattle.proof_lines.specs.declared.line.Line.{Line}
+use Rattle.proof_lines.specs.declared.note.Note.{Note}
+use Rattle.proof_lines.specs.Spelling.{read_line}
+use Rattle.proof_lines.specs.Notes.{note_in}
+use Rattle.proof_rules.specs.Refusals.{Refusal}
+use Rattle.proof_rules.specs.Valid.{Place, Start, Proving, Closing, next_place}
+use Rattle.proof_rules.specs.Texts.{Reaches, cut, whole_lines}
+use Rattle.proof_rules.specs.Held.{Held, after_any_note, after_line, first_held}
+use Rattle.proof_rules.specs.Notes.{IsTrueNote}
+
+pub record Told : Type 0 where
+  pub place : Place
+  pub held : Held
+
+abbrev pub first_told : Lists → Told
+first_told lists = record { place = Start; held = first_held lists }
+
+-- ---- one line
+
+-- a line that leads nowhere leaves the place
+abbrev pub or_here : Place → Result Place Refusal → Place
+or_here here (Ok there) = there
+or_here here (Err why) = here
+
+abbrev pub place_after : Formula → Place → Option Line → Place
+place_after f here None = here
+place_after f here (Some line) = or_here here (next_place f here line)
+
+abbrev pub held_after : Place → List ℕ → Held → Held
+held_after here text held = after_any_note (note_in text) (after_line here (read_line text) held)
+
+abbrev pub told_after : Formula → Told → List ℕ → Told
+told_after f told text = record { place = place_after f told.place (read_line text); held = held_after told.place text told.held }
+
+-- ---- lines
+
+abbrev pub told_by : Formula → Told → List (List ℕ) → Told
+told_by f told [] = told
+told_by f told (text ∷ texts) = told_by f (told_after f told text) texts
+
+-- a note, and what was live and held just before it
+pub record NoteAt : Type 0 where
+  pub live : List NumberedRow
+  pub held : Held
+  pub note : Note
+
+abbrev pub live_at : Place → List NumberedRow
+live_at (Proving s) = s.live
+live_at (Closing s) = s.live
+live_at place = []
+
+abbrev pub noted : Told → Option Note → List NoteAt
+noted told None = []
+noted told (Some note) = record { live = live_at told.place; held = told.held; note = note } ∷ []
+
+-- the notes of the lines, in their order
+abbrev pub notes_by : Formula → Told → List (List ℕ) → List NoteAt
+notes_by f told [] = []
+notes_by f told (text ∷ texts) = noted told (note_in text) ++ notes_by f (told_after f told text) texts
+
+-- ---- proofs of a model
+
+abbrev pub IsTrueAt : Lists → NoteAt → Type 0
+IsTrueAt lists at = IsTrueNote lists at.live at.held at.note
+
+-- the notes of the whole lines of a text
+abbrev pub notes_of : Lists → List ℕ → List NoteAt
+notes_of lists bytes = notes_by (formula lists) (first_told lists) (cut bytes).whole
+
+abbrev pub held_by : Lists → List ℕ → Held
+held_by lists bytes = (told_by (formula lists) (first_told lists) (cut bytes).whole).held
+
+-- The bytes are whole lines, and so a valid proof of the model up to here. They lead to the place, with these rows held,
+-- and each note is true.
+pub record Tells (lists : Lists) (bytes : List ℕ) (place : Place) (held : Held) : Type 0 where
+  pub whole : (cut bytes).rest ≡ []
+  pub reaches : Reaches (formula lists) Start (whole_lines bytes) place
+  pub held_is : held_by lists bytes ≡ held
+  pub notes_true : All (IsTrueAt lists) (notes_of lists bytes)

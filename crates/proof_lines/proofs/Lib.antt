@@ -1,1 +1,3 @@
+pub mod Onto
+pub mod StepByStep
 mod WorkedNotes

@@ -1,2 +1,3 @@
 pub mod Spelling
 pub mod Notes
+pub mod Steps

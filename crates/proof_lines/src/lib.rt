@@ -5,6 +5,7 @@ mod line;
 mod list;
 mod note;
 mod refusal;
+mod steps;
 
 pub use line::{Claim, Line, PolStep};
 pub use list::{Ids, List, Lits, PolSteps, Vars};

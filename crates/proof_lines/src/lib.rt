@@ -1,6 +1,8 @@
 //! The lines of proofs: what they are, how they are spelled and read, and the notes that the solver writes between them.
 #![tactic(auto)]
 
+mod claims;
+mod items;
 mod line;
 mod list;
 mod note;

@@ -1,1 +1,4 @@
+pub mod Bounds
+pub mod Onto
+pub mod StepByStep
 mod WorkedNotes

@@ -1,2 +1,5 @@
 pub mod Spelling
 pub mod Notes
+pub mod Steps
+pub mod FirstLine
+pub mod Claims

@@ -1,10 +1,13 @@
 //! The lines of proofs: what they are, how they are spelled and read, and the notes that the solver writes between them.
 #![tactic(auto)]
 
+mod claims;
+mod items;
 mod line;
 mod list;
 mod note;
 mod refusal;
+mod steps;
 
 pub use line::{Claim, Line, PolStep};
 pub use list::{Ids, List, Lits, PolSteps, Vars};

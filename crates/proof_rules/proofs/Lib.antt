@@ -5,3 +5,6 @@ pub mod Steps
 pub mod Soundness
 pub mod Verdicts
 pub mod Pieces
+pub mod Fits
+pub mod Canonical
+pub mod FarBounds

@@ -8,3 +8,4 @@ pub mod Pieces
 pub mod Fits
 pub mod Canonical
 pub mod FarBounds
+pub mod Matchings

@@ -9,3 +9,4 @@ pub mod Fits
 pub mod Canonical
 pub mod FarBounds
 pub mod Matchings
+pub mod Told

@@ -5,3 +5,8 @@ pub mod Steps
 pub mod Soundness
 pub mod Verdicts
 pub mod Pieces
+pub mod Fits
+pub mod Canonical
+pub mod FarBounds
+pub mod Matchings
+pub mod Told

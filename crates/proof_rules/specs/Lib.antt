@@ -9,3 +9,4 @@ pub mod Sound
 pub mod Held
 pub mod Notes
 pub mod Told
+pub mod Matchings

@@ -75,10 +75,12 @@ notes_of lists bytes = notes_by (formula lists) (first_told lists) (cut bytes).w
 abbrev pub held_by : Lists → List ℕ → Held
 held_by lists bytes = (told_by (formula lists) (first_told lists) (cut bytes).whole).held
 
--- The bytes are whole lines, and so a valid proof of the model up to here. They lead to the place, with these rows held,
--- and each note is true.
+-- The bytes are whole lines, and as far as they go a valid proof of the model. They lead to the place, with these rows held.
 pub record Tells (lists : Lists) (bytes : List ℕ) (place : Place) (held : Held) : Type 0 where
   pub whole : (cut bytes).rest ≡ []
   pub reaches : Reaches (formula lists) Start (whole_lines bytes) place
   pub held_is : held_by lists bytes ≡ held
-  pub notes_true : All (IsTrueAt lists) (notes_of lists bytes)
+
+-- what each note of the bytes says is so
+abbrev pub AreTrueNotes : Lists → List ℕ → Type 0
+AreTrueNotes lists bytes = All (IsTrueAt lists) (notes_of lists bytes)

@@ -3,6 +3,7 @@
 //! empty body, and its contract is a law over them.
 #![tactic(auto)]
 
+ghost use Rattle.proof_rules.specs.Matchings.{VerifiedBounds};
 ghost use Rattle.proof_rules.specs.Sound.{ProofTextsAreSound, ProofsAreSound};
 
 /// Whatever lines are a valid proof of a formula, its claim is true: no point that satisfies the formula passes the lower
@@ -16,4 +17,11 @@ pub fn proofs_are_sound()
 #[tactic(auto, using(crate::proofs::Verdicts::texts_sound))]
 pub fn proof_texts_are_sound()
     ensures { ProofTextsAreSound }
+{}
+
+/// Whatever bytes are a valid proof of an instance's model with the bounds L and U, every weakly stable matching has at most
+/// -L pairs, and one has at least -U.
+#[tactic(auto, using(crate::proofs::Matchings::verified_bounds))]
+pub fn verified_bounds_are_true()
+    ensures { VerifiedBounds }
 {}

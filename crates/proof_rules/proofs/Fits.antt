@@ -1,0 +1,150 @@
+-- Which rows fit: all but sums and multiples.
+use Rattle.std.proofs.Common.{◌≡◌, ℕ, zero, suc, ◌+◌, ◌*◌, ◌^◌, ◌≤◌, ◌↔◌, min, Bool, true, false, cond, not, List, [], ◌∷◌, nat_le, IsTrue, map, filter, ℤ, pos, negsuc, ◌+ℤ◌, ◌-ℤ◌, neg_ℤ, ◌≤ℤ◌, int_le, subst, refl, sym, ◌∙◌, inl, inr, arith}
+use Rattle.std.specs.Int.{div_ceil}
+use Rattle.std.specs.Int.RustNames.{unsigned_abs}
+use Rattle.std.proofs.Math.Nat.{mul-le-mul_left, mul-le-mul_right, div-zero, mod-zero}
+use Rattle.std.proofs.lemmas.Int.{ints}
+use Rattle.std.proofs.lemmas.Grind.{div_ceil_times}
+use Rattle.std.proofs.lemmas.Bool.{leb-true, le-leb, and_parts, and_from, cases_lt}
+use Rattle.hrt_base.specs.declared.literal.Lit.{Lit}
+use Rattle.hrt_base.specs.declared.literal.Term.{Term}
+use Rattle.pb_rows.specs.Terms.{PlainRow, capped, coef_sum, is_over, is_present, weight}
+use Rattle.pb_rows.specs.Points.{Point, true_sum, value_at}
+use Rattle.pb_rows.specs.Normal.{all_sizes, gained, normal_form, on_opposites, or_zero, sizes, var_bound}
+use Rattle.pb_rows.specs.Rows.{Fits, IsNormal, divide, literal_row, saturate, weaken}
+use Rattle.pb_rows.specs.Joined.{joined_form, signless_all, turned_sum}
+use Rattle.pb_rows.proofs.ByNets.{holds-normal_form, joined_form_is, joined_rising}
+use Rattle.pb_rows.proofs.Changes.{reweighed_sum}
+use Rattle.pb_rows.proofs.Order.{put_all_sum}
+use Rattle.pb_rows.proofs.Signs.{or_zero_le, signless_from, signless_sum, turned_sum_le}
+use Rattle.pb_rows.proofs.Sums.{true_sum_le}
+use Rattle.proof_rules.specs.Pol.{fits}
+use Rattle.proof_rules.specs.States.{at_most_row, minus_terms}
+use Rattle.proof_rules.proofs.Steps.{value-negated}
+
+-- ---- the test
+
+pub fits_true : (row : PlainRow) → Fits row → fits row ≡ true
+fits_true row h = and_from (nat_le (coef_sum row.terms) (2 ^ 120)) (nat_le row.degree (2 ^ 120)) (le-leb (coef_sum row.terms) (2 ^ 120) h.sum) (le-leb row.degree (2 ^ 120) h.degree)
+
+pub true_fits : (row : PlainRow) → fits row ≡ true → Fits row
+true_fits row h =
+    let parts = and_parts (nat_le (coef_sum row.terms) (2 ^ 120)) (nat_le row.degree (2 ^ 120)) h in
+    record { sum = leb-true (coef_sum row.terms) (2 ^ 120) parts.0; degree = leb-true row.degree (2 ^ 120) parts.1 }
+
+pub fits_is : (row : PlainRow) → IsTrue (fits row) ↔ Fits row
+fits_is row = (true_fits row, fits_true row)
+
+-- ---- division, saturation, weakening, literals
+
+kept_step : (b : Bool) (t : Term) (kept : List Term) (s : ℕ) → coef_sum kept ≤ s → coef_sum (cond b (t ∷ kept) kept) ≤ weight t.coef + s
+kept_step true t kept s h = omega (arith, h)
+kept_step false t kept s h = omega (arith, h)
+
+filter_sum : (keep : Term → Bool) (ts : List Term) → coef_sum (filter keep ts) ≤ coef_sum ts
+filter_sum keep [] = omega arith
+filter_sum keep (t ∷ ts) = kept_step (keep t) t (filter keep ts) (coef_sum ts) (filter_sum keep ts)
+
+grown : (c k : ℕ) → c ≤ c * suc k
+grown c k = let h : 1 ≤ suc k = omega arith in omega (arith, mul-le-mul_left c h)
+
+ceil_less : (k c : ℕ) → div_ceil c k ≤ c
+ceil_less zero c = omega (arith, div-zero c, mod-zero c)
+ceil_less (suc k) c = elim (cases_lt c (div_ceil c (suc k))) [
+  | inl lt ↦ absurd (omega (arith, div_ceil_times c (suc k) (omega arith), mul-le-mul_right (suc k) lt, grown c k))
+  | inr le ↦ le
+]
+
+pub fits-divide : (k : ℕ) (row : PlainRow) → Fits row → Fits (divide k row)
+fits-divide k row h = record {
+  sum = omega (arith, h.sum, reweighed_sum (λ w. div_ceil w k) (ceil_less k) row.terms);
+  degree = omega (arith, h.degree, ceil_less k row.degree);
+}
+
+pub fits-saturate : (row : PlainRow) → Fits row → Fits (saturate row)
+fits-saturate row h = record {
+  sum = omega (arith, h.sum, filter_sum is_present (map (capped row.degree) row.terms), reweighed_sum (λ w. min w row.degree) (λ w. omega arith) row.terms);
+  degree = h.degree;
+}
+
+pub fits-weaken : (v : ℕ) (row : PlainRow) → Fits row → Fits (weaken v row)
+fits-weaken v row h = record { sum = omega (arith, h.sum, filter_sum (λ t. not (is_over v t)) row.terms); degree = omega (arith, h.degree) }
+
+pub fits-literal_row : (l : Lit) → Fits (literal_row l)
+fits-literal_row l = record { sum = omega arith; degree = omega arith }
+
+-- ---- normal form: the sum of the sizes is enough
+
+joined-sum : (ts : List Term) (at_least : ℤ) → coef_sum (joined_form ts at_least).terms ≤ sizes ts
+joined-sum ts at_least = omega (arith, put_all_sum 0 [] (signless_all ts) (signless_from ts), signless_sum ts)
+
+joined-degree : (ts : List Term) (at_least : ℤ) → (joined_form ts at_least).degree ≤ all_sizes ts at_least
+joined-degree ts at_least = omega (arith, or_zero_le at_least (turned_sum ts), turned_sum_le ts)
+
+pub normal_form-sum : (ts : List Term) (at_least : ℤ) → coef_sum (normal_form ts at_least).terms ≤ sizes ts
+normal_form-sum ts at_least = subst (λ (row : PlainRow). coef_sum row.terms ≤ sizes ts) (joined_form_is ts at_least) (joined-sum ts at_least)
+
+pub normal_form-degree : (ts : List Term) (at_least : ℤ) → (normal_form ts at_least).degree ≤ all_sizes ts at_least
+normal_form-degree ts at_least = subst (λ (row : PlainRow). row.degree ≤ all_sizes ts at_least) (joined_form_is ts at_least) (joined-degree ts at_least)
+
+-- a row whose written numbers have sizes that sum to at most 2^120
+pub fits-normal_form : (ts : List Term) (at_least : ℤ) → all_sizes ts at_least ≤ 2 ^ 120 → Fits (normal_form ts at_least)
+fits-normal_form ts at_least h = record { sum = omega (arith, h, normal_form-sum ts at_least); degree = omega (arith, h, normal_form-degree ts at_least) }
+
+pub normal_form-rises : (ts : List Term) (at_least : ℤ) → Fits (normal_form ts at_least) → IsNormal (normal_form ts at_least)
+normal_form-rises ts at_least h = record { rising = joined_rising (var_bound ts) ts; fits = h }
+
+-- ---- the row of a solution
+
+pub sizes-minus : (ts : List Term) → sizes (minus_terms ts) ≡ sizes ts
+sizes-minus [] = refl
+sizes-minus (t ∷ ts) = omega (arith, same_size t.coef, sizes-minus ts)
+  where
+    same_size : (z : ℤ) → unsigned_abs (neg_ℤ z) ≡ unsigned_abs z
+    same_size (pos zero) = refl
+    same_size (pos (suc n)) = refl
+    same_size (negsuc n) = refl
+
+pub or_zero_least : (z : ℤ) (n : ℕ) → z ≤ℤ pos n → or_zero z ≤ n
+or_zero_least (pos m) n h = omega (arith, ints, h)
+or_zero_least (negsuc m) n h = omega arith
+
+one_more : (z : ℤ) → or_zero (z +ℤ pos 1) ≤ or_zero z + 1
+one_more (pos n) = omega arith
+one_more (negsuc n) = or_zero_least (negsuc n +ℤ pos 1) (0 + 1) (omega (arith, ints))
+
+pub same_shift : (v o g z : ℤ) → z ≡ (neg_ℤ v -ℤ o) +ℤ g → (neg_ℤ (v -ℤ pos 1) -ℤ o) +ℤ g ≡ z +ℤ pos 1
+same_shift v o g z e = omega (arith, ints)
+
+le_self : (v w : ℤ) → w ≡ neg_ℤ v → int_le (neg_ℤ v) w ≡ true
+le_self v w e = grind (arith, ints)
+
+-- `objective <= v` holds where v is the value, so its degree is at most the sum of its coefficients
+at_value-degree : (p : Point) (ts : List Term) → (at_most_row ts (value_at p ts)).degree ≤ sizes ts
+at_value-degree p ts =
+    let here : (at_most_row ts (value_at p ts)).degree ≤ true_sum p (at_most_row ts (value_at p ts)).terms =
+    leb-true (at_most_row ts (value_at p ts)).degree (true_sum p (at_most_row ts (value_at p ts)).terms)
+    (holds-normal_form p (minus_terms ts) (neg_ℤ (value_at p ts)) ∙ le_self (value_at p ts) (value_at p (minus_terms ts)) (value-negated p ts)) in
+    omega (arith, here, true_sum_le p (at_most_row ts (value_at p ts)).terms, normal_form-sum (minus_terms ts) (neg_ℤ (value_at p ts)), sizes-minus ts)
+
+at_most-sum : (ts : List Term) (v : ℤ) → coef_sum (at_most_row ts v).terms ≤ sizes ts
+at_most-sum ts v = omega (arith, normal_form-sum (minus_terms ts) (neg_ℤ v), sizes-minus ts)
+
+-- `objective <= v` itself, with an objective within 2^120
+pub fits-at_value : (p : Point) (ts : List Term) → sizes ts ≤ 2 ^ 120 → Fits (at_most_row ts (value_at p ts))
+fits-at_value p ts h = record { sum = omega (arith, h, at_most-sum ts (value_at p ts)); degree = omega (arith, h, at_value-degree p ts) }
+
+-- one less asks for one more
+less-degree : (p : Point) (ts : List Term) → (at_most_row ts (value_at p ts -ℤ pos 1)).degree ≤ (at_most_row ts (value_at p ts)).degree + 1
+less-degree p ts =
+    let g : ℕ = gained (var_bound (minus_terms ts)) (minus_terms ts) in
+    subst (λ (z : ℤ). or_zero z ≤ (at_most_row ts (value_at p ts)).degree + 1)
+    (sym (same_shift (value_at p ts) (on_opposites (minus_terms ts)) (pos g) ((neg_ℤ (value_at p ts) -ℤ on_opposites (minus_terms ts)) +ℤ pos g) refl))
+    (one_more ((neg_ℤ (value_at p ts) -ℤ on_opposites (minus_terms ts)) +ℤ pos g))
+
+-- with an objective within 2^119
+pub fits-solution_row : (p : Point) (ts : List Term) → sizes ts ≤ 2 ^ 119 → Fits (at_most_row ts (value_at p ts -ℤ pos 1))
+fits-solution_row p ts h = record {
+  sum = omega (arith, h, at_most-sum ts (value_at p ts -ℤ pos 1));
+  degree = omega (arith, h, at_value-degree p ts, less-degree p ts);
+}

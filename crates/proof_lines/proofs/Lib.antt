@@ -1,4 +1,5 @@
 pub mod Bounds
+pub mod EndLine
 pub mod Judged
 pub mod Onto
 pub mod StepByStep

@@ -1,14 +1,12 @@
 -- What the first line of some bytes reads as.
-use Rattle.std.specs.Prelude.{◌≡◌, ℕ, ◌+◌, Bool, ◌&&◌, ◌==◌, nat_le, length, if◌then◌else◌, List, take, position, Option, Some, None, Result, Ok, Err}
-use Rattle.hrt_text.specs.Text.{without_return}
-use Rattle.row_text.specs.Tokens.{are, tokens}
+use Rattle.std.specs.Prelude.{◌≡◌, ℕ, ◌+◌, Bool, false, true, ◌==◌, if◌then◌else◌, List, take, position, Option, Some, None, Result, Ok, Err}
 use Rattle.proof_lines.specs.declared.line.Line.{Line}
-use Rattle.proof_lines.specs.declared.line.Line.TheVariants.{Rup, Conclusion}
+use Rattle.proof_lines.specs.declared.line.Line.TheVariants.{Rup, Conclusion, End}
 use Rattle.proof_lines.specs.declared.refusal.LineKind.{LineKind}
 use Rattle.proof_lines.specs.declared.refusal.LineKind.TheVariants.{Pol as pol_kind, Rup as rup_kind, Conclusion as conclusion_kind}
 use Rattle.proof_lines.specs.declared.refusal.LineRefusal.{LineRefusal}
 use Rattle.proof_lines.specs.declared.refusal.LineRefusal.TheVariants.{Syntax, TooBig, NoMemory}
-use Rattle.proof_lines.specs.Spelling.{end_words, is_small_line, most_bytes, read_line}
+use Rattle.proof_lines.specs.Spelling.{is_small_line, read_line}
 
 -- the kind of a line with a number that is too big: no other kinds have numbers
 abbrev pub kind_of : Line → LineKind
@@ -42,6 +40,11 @@ Answers (Err NoMemory) wanted = Unit {0}
 Answers (Err Syntax) wanted = wanted ≡ Err Syntax
 Answers (Err (TooBig kind)) wanted = wanted ≡ Err (TooBig kind)
 
+abbrev pub is_end : Option Line → Bool
+is_end None = false
+is_end (Some End) = true
+is_end (Some line) = false
+
 -- the bytes are the end line, without a line feed
 abbrev pub is_end_text : List ℕ → Bool
-is_end_text bytes = nat_le (length bytes + 1) most_bytes && are (tokens (without_return bytes)) end_words
+is_end_text bytes = is_end (read_line bytes)

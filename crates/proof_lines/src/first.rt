@@ -55,6 +55,7 @@ pub fn next_line(alloc: Global, bytes: &[u8]) -> Result<Option<(Line, usize)>, L
 }
 
 /// Whether the bytes are the end line without its line feed.
+#[tactic(auto, using(crate::proofs::EndLine::end_text))]
 pub fn is_end_text(bytes: &[u8]) -> bool
     ensures { result ≡ is_end_text bytes.now }
 {

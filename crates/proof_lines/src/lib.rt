@@ -10,6 +10,7 @@ mod note;
 mod reading;
 mod refusal;
 mod steps;
+mod writing;
 
 pub use first::{is_end_text, next_line};
 pub use line::{Claim, Line, PolStep};

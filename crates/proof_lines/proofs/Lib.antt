@@ -1,4 +1,6 @@
 pub mod Bounds
+pub mod EndLine
+pub mod Judged
 pub mod Onto
 pub mod StepByStep
 mod WorkedNotes

@@ -1,7 +1,7 @@
 -- What the first line of some bytes reads as.
-use Rattle.std.specs.Prelude.{◌≡◌, ℕ, ◌+◌, ◌==◌, if◌then◌else◌, List, take, position, Option, Some, None, Result, Ok, Err}
+use Rattle.std.specs.Prelude.{◌≡◌, ℕ, ◌+◌, Bool, false, true, ◌==◌, if◌then◌else◌, List, take, position, Option, Some, None, Result, Ok, Err}
 use Rattle.proof_lines.specs.declared.line.Line.{Line}
-use Rattle.proof_lines.specs.declared.line.Line.TheVariants.{Rup, Conclusion}
+use Rattle.proof_lines.specs.declared.line.Line.TheVariants.{Rup, Conclusion, End}
 use Rattle.proof_lines.specs.declared.refusal.LineKind.{LineKind}
 use Rattle.proof_lines.specs.declared.refusal.LineKind.TheVariants.{Pol as pol_kind, Rup as rup_kind, Conclusion as conclusion_kind}
 use Rattle.proof_lines.specs.declared.refusal.LineRefusal.{LineRefusal}
@@ -39,3 +39,12 @@ Answers (Ok x) wanted = wanted ≡ Ok x
 Answers (Err NoMemory) wanted = Unit {0}
 Answers (Err Syntax) wanted = wanted ≡ Err Syntax
 Answers (Err (TooBig kind)) wanted = wanted ≡ Err (TooBig kind)
+
+abbrev pub is_end : Option Line → Bool
+is_end None = false
+is_end (Some End) = true
+is_end (Some line) = false
+
+-- the bytes are the end line, without a line feed
+abbrev pub is_end_text : List ℕ → Bool
+is_end_text bytes = is_end (read_line bytes)

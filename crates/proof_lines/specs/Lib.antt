@@ -3,3 +3,4 @@ pub mod Notes
 pub mod Steps
 pub mod FirstLine
 pub mod Claims
+pub mod Texts

@@ -96,6 +96,14 @@ output_words = codes "output" ∷ codes "NONE" ∷ []
 abbrev pub end_words : List (List ℕ)
 end_words = codes "end" ∷ codes "pseudo-Boolean" ∷ codes "proof" ∷ []
 
+-- a line of fixed words
+abbrev pub read_words : List (List ℕ) → Option Line
+read_words ts =
+    if are ts output_words then Some Output
+    else if are ts header_words then Some Header
+    else if are ts end_words then Some End
+    else None
+
 abbrev pub read_tokens : List (List ℕ) → Option Line
 read_tokens [] = Some Blank
 read_tokens (t ∷ ts) =
@@ -106,10 +114,7 @@ read_tokens (t ∷ ts) =
     else if bytes_eq t (codes "soli") then option_map Soli (read_each read_literal ts)
     else if bytes_eq t (codes "del") then option_map Del (read_del ts)
     else if bytes_eq t (codes "conclusion") then option_map Conclusion (read_claim ts)
-    else if are (t ∷ ts) output_words then Some Output
-    else if are (t ∷ ts) header_words then Some Header
-    else if are (t ∷ ts) end_words then Some End
-    else None
+    else read_words (t ∷ ts)
 
 -- What the bytes before a line feed spell, if anything; numbers may be of any size. With the line feed the line has at most
 -- 16,777,216 bytes.

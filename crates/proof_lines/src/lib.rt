@@ -2,13 +2,17 @@
 #![tactic(auto)]
 
 mod claims;
+mod first;
 mod items;
 mod line;
 mod list;
 mod note;
+mod reading;
 mod refusal;
 mod steps;
+mod writing;
 
+pub use first::{is_end_text, next_line};
 pub use line::{Claim, Line, PolStep};
 pub use list::{Ids, List, Lits, PolSteps, Vars};
 pub use note::Note;

@@ -54,3 +54,11 @@ term_text t = signed_text t.coef ++ 32 ∷ (literal_text t.lit ++ 32 ∷ [])
 
 abbrev pub row_text : Written → List ℕ
 row_text row = flat_map term_text row.terms ++ codes ">= " ++ signed_decimal row.at_least ++ codes " ;"
+
+-- ---- the words of what is written
+
+abbrev pub term_words : Term → List (List ℕ)
+term_words t = signed_text t.coef ∷ literal_text t.lit ∷ []
+
+abbrev pub row_words : Written → List (List ℕ)
+row_words row = flat_map term_words row.terms ++ codes ">=" ∷ signed_decimal row.at_least ∷ codes ";" ∷ []

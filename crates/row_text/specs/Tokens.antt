@@ -1,5 +1,5 @@
 -- The tokens of a line.
-use Rattle.std.specs.Prelude.{ℕ, Bool, false, true, ◌==◌, ◌&&◌, ◌||◌, if◌then◌else◌, List, [], ◌∷◌, bytes_eq}
+use Rattle.std.specs.Prelude.{ℕ, Bool, false, true, ◌==◌, ◌&&◌, ◌||◌, if◌then◌else◌, List, [], ◌∷◌, ◌++◌, bytes_eq}
 
 -- What stands from a place in a line on: the bytes, if any, of the token that goes on there, and the tokens after it.
 pub record Onward : Type 0 where
@@ -47,3 +47,15 @@ are [] [] = true
 are [] (u ∷ us) = false
 are (t ∷ ts) [] = false
 are (t ∷ ts) (u ∷ us) = bytes_eq t u && are ts us
+
+-- ---- words as a text
+
+-- words with a space before each
+abbrev pub spaced : List (List ℕ) → List ℕ
+spaced [] = []
+spaced (w ∷ ws) = 32 ∷ (w ++ spaced ws)
+
+-- words with single spaces between them
+abbrev pub words_text : List (List ℕ) → List ℕ
+words_text [] = []
+words_text (w ∷ ws) = w ++ spaced ws

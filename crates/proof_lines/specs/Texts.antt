@@ -1,0 +1,131 @@
+-- What is written for a line and for a note: words with single spaces between them, and a line feed.
+use Rattle.std.specs.Prelude.{ℕ, Bool, ◌&&◌, ◌^◌, ◌-◌, nat_le, List, [], ◌∷◌, ◌++◌, map, flat_map, codes, decimal, ℤ, pos, negsuc, Option, Some, None, false, true}
+use Rattle.std.specs.Fmt.{signed_decimal}
+use Rattle.std.specs.List.{list_all}
+use Rattle.hrt_base.specs.declared.literal.Lit.{Lit}
+use Rattle.hrt_base.specs.declared.literal.Term.{Term}
+use Rattle.hrt_base.specs.declared.numbered.RowNo.{RowNo}
+use Rattle.row_text.specs.Rows.{literal_text, row_words}
+use Rattle.row_text.specs.Tokens.{words_text}
+use Rattle.proof_lines.specs.declared.line.PolStep.{PolStep}
+use Rattle.proof_lines.specs.declared.line.PolStep.TheVariants.{Id, Axiom, Add, Times, Divide, Saturate, Weaken}
+use Rattle.proof_lines.specs.declared.line.Claim.{Claim}
+use Rattle.proof_lines.specs.declared.line.Claim.TheVariants.{Bounds, Unsat, Nothing}
+use Rattle.proof_lines.specs.declared.line.Line.{Line}
+use Rattle.proof_lines.specs.declared.line.Line.TheVariants.{Header, Count, Pol, Rup, Soli, Del, Output, Conclusion, End, Comment, Blank}
+use Rattle.proof_lines.specs.declared.note.Note.{Note}
+use Rattle.proof_lines.specs.declared.note.Note.TheVariants.{Unit as unit_note, Bound as bound_note, Load as load_note, Learn as learn_note, Drop as drop_note}
+use Rattle.proof_lines.specs.Spelling.{end_words, header_words, output_words}
+
+abbrev pub id_text : RowNo → List ℕ
+id_text r = decimal r.0
+
+abbrev pub variable_text : ℕ → List ℕ
+variable_text v = codes "x" ++ decimal v
+
+-- ---- lines
+
+-- a factor has no sign
+abbrev pub step_words : PolStep → List (List ℕ)
+step_words (Id r) = id_text r ∷ []
+step_words (Axiom l) = literal_text l ∷ []
+step_words Add = codes "+" ∷ []
+step_words (Times k) = signed_decimal k ∷ codes "*" ∷ []
+step_words (Divide k) = signed_decimal k ∷ codes "d" ∷ []
+step_words Saturate = codes "s" ∷ []
+step_words (Weaken v) = variable_text v ∷ codes "w" ∷ []
+
+-- a bound has a sign only where it is negative
+abbrev pub bound_text : List ℕ → Option ℤ → List ℕ
+bound_text word None = word
+bound_text word (Some z) = signed_decimal z
+
+abbrev pub claim_words : Claim → List (List ℕ)
+claim_words (Bounds lower upper) = codes "BOUNDS" ∷ bound_text (codes "-INF") lower ∷ bound_text (codes "INF") upper ∷ []
+claim_words Unsat = codes "UNSAT" ∷ []
+claim_words Nothing = codes "NONE" ∷ []
+
+abbrev pub line_words : Line → List (List ℕ)
+line_words Header = header_words
+line_words (Count n) = codes "f" ∷ decimal n ∷ []
+line_words (Pol steps) = codes "pol" ∷ flat_map step_words steps
+line_words (Rup row) = codes "rup" ∷ row_words row
+line_words (Soli lits) = codes "soli" ∷ map literal_text lits
+line_words (Del ids) = codes "del" ∷ codes "id" ∷ map id_text ids
+line_words Output = output_words
+line_words (Conclusion claim) = codes "conclusion" ∷ claim_words claim
+line_words End = end_words
+line_words Comment = codes "*" ∷ []
+line_words Blank = []
+
+-- without its line feed
+abbrev pub spelling : Line → List ℕ
+spelling line = words_text (line_words line)
+
+abbrev pub line_text : Line → List ℕ
+line_text line = spelling line ++ 10 ∷ []
+
+-- ---- notes
+
+abbrev pub note_tail : Note → List (List ℕ)
+note_tail (unit_note r) = codes "unit" ∷ id_text r ∷ []
+note_tail (bound_note r) = codes "bound" ∷ id_text r ∷ []
+note_tail (load_note trues rows) = codes "load" ∷ (map variable_text trues ++ codes ":" ∷ map id_text rows)
+note_tail (learn_note r decisions asserts) = codes "learn" ∷ id_text r ∷ codes ":" ∷ (map literal_text decisions ++ codes ":" ∷ literal_text asserts ∷ [])
+note_tail (drop_note r) = codes "drop" ∷ id_text r ∷ []
+
+abbrev pub note_words : Note → List (List ℕ)
+note_words note = codes "*" ∷ codes "note" ∷ note_tail note
+
+-- without its line feed
+abbrev pub note_spelling : Note → List ℕ
+note_spelling note = words_text (note_words note)
+
+abbrev pub note_text : Note → List ℕ
+note_text note = note_spelling note ++ 10 ∷ []
+
+-- ---- which lines and notes have a spelling
+
+abbrev pub is_made_id : RowNo → Bool
+is_made_id r = nat_le 1 r.0 && nat_le r.0 (10 ^ 18 - 1)
+
+abbrev pub is_made_variable : ℕ → Bool
+is_made_variable v = nat_le 1 v && nat_le v 4294967295
+
+abbrev pub is_made_literal : Lit → Bool
+is_made_literal l = is_made_variable l.var
+
+abbrev pub is_factor : ℤ → Bool
+is_factor (pos n) = nat_le 1 n
+is_factor (negsuc n) = false
+
+abbrev pub is_made_step : PolStep → Bool
+is_made_step (Id r) = is_made_id r
+is_made_step (Axiom l) = is_made_literal l
+is_made_step (Times k) = is_factor k
+is_made_step (Divide k) = is_factor k
+is_made_step (Weaken v) = is_made_variable v
+is_made_step step = true
+
+abbrev pub is_made_term : Term → Bool
+is_made_term t = is_made_literal t.lit
+
+abbrev pub is_some_of : {A : Type 0} → (A → Bool) → List A → Bool
+is_some_of test [] = false
+is_some_of test (x ∷ xs) = list_all test (x ∷ xs)
+
+-- Row numbers are 1 to 10^18 - 1, variables 1 to 4,294,967,295, factors at least 1, and steps and row numbers are not missing.
+abbrev pub is_made : Line → Bool
+is_made (Count n) = nat_le n (10 ^ 18 - 1)
+is_made (Pol steps) = is_some_of is_made_step steps
+is_made (Rup row) = list_all is_made_term row.terms
+is_made (Soli lits) = list_all is_made_literal lits
+is_made (Del ids) = is_some_of is_made_id ids
+is_made line = true
+
+abbrev pub is_made_note : Note → Bool
+is_made_note (unit_note r) = is_made_id r
+is_made_note (bound_note r) = is_made_id r
+is_made_note (load_note trues rows) = list_all is_made_variable trues && is_some_of is_made_id rows
+is_made_note (learn_note r decisions asserts) = is_made_id r && list_all is_made_literal decisions && is_made_literal asserts
+is_made_note (drop_note r) = is_made_id r

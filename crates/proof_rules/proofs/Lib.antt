@@ -10,3 +10,6 @@ pub mod Canonical
 pub mod FarBounds
 pub mod Matchings
 pub mod Told
+mod Worked
+mod WorkedTexts
+mod WorkedClosures

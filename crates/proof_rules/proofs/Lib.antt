@@ -13,3 +13,4 @@ pub mod Told
 mod Worked
 mod WorkedTexts
 mod WorkedClosures
+pub mod Numbers

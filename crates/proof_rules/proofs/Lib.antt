@@ -14,3 +14,5 @@ mod Worked
 mod WorkedTexts
 mod WorkedClosures
 pub mod Numbers
+pub mod Learned
+mod WorkedNotes

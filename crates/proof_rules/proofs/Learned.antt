@@ -1,6 +1,7 @@
 -- Learned rows: what a fresh one says besides, and that sizes of closures are determined.
-use Rattle.std.proofs.Common.{◌≡◌, ℕ, ◌+◌, ◌==◌, ◌<◌, Bool, true, false, nat_lt, if◌then◌else◌, ◌||◌, ◌&&◌, List, [], ◌∷◌, ◌++◌, count_by, ◌⊎◌, inl, inr, refl, sym, ap, ap₂, ◌∙◌, arith}
-use Rattle.std.proofs.lemmas.Bool.{eq-eqb, eqb-true, lt-ltb, ltb-true}
+use Rattle.std.proofs.Common.{◌≡◌, subst, ℕ, ◌+◌, ◌==◌, ◌<◌, Bool, true, false, nat_lt, not, if◌then◌else◌, ◌||◌, ◌&&◌, List, [], ◌∷◌, ◌++◌, count_by, ◌⊎◌, inl, inr, refl, sym, ap, ap₂, ◌∙◌, arith}
+use Rattle.std.specs.List.{AllByRecursion}
+use Rattle.std.proofs.lemmas.Bool.{and_from, and_parts, eq-eqb, eqb-true, lt-ltb, ltb-true}
 use Rattle.hrt_base.specs.declared.literal.Lit.{Lit}
 use Rattle.pb_rows.specs.Terms.{PlainRow}
 use Rattle.pb_rows.specs.Closure.{Literals, Refuted}
@@ -12,6 +13,39 @@ use Rattle.proof_rules.specs.Notes.{Fresh, HaveSizes, among, is_greater, is_same
 -- under the decisions of a fresh row the held rows aren't refuted
 pub fresh-not_refuted : (held : List PlainRow) (row : PlainRow) (decisions : List Lit) (l : Lit) → Fresh held row decisions l → Refuted held (among decisions) → ⊥
 fresh-not_refuted held row decisions l fresh r = r fresh.set fresh.closure.quiet
+
+-- ---- lists of literals
+
+same_sign : (m n : Bool) → (if m then n else not n) ≡ true → m ≡ n
+same_sign true true h = refl
+same_sign true false h = absurd (cc)
+same_sign false true h = absurd (cc)
+same_sign false false h = refl
+
+-- the test of two literals tells whether they are one
+pub same_lit : (a b : Lit) → is_same_lit a b ≡ true → a ≡ b
+same_lit a b h =
+    let parts = and_parts (a.var == b.var) (if a.neg then b.neg else not b.neg) h in
+    ap₂ (λ (v : ℕ) (n : Bool). record { var = v; neg = n }) (eqb-true a.var b.var parts.0) (same_sign a.neg b.neg parts.1)
+
+its_sign : (n : Bool) → (if n then n else not n) ≡ true
+its_sign true = refl
+its_sign false = refl
+
+pub same_itself : (l : Lit) → is_same_lit l l ≡ true
+same_itself l = and_from (l.var == l.var) (if l.neg then l.neg else not l.neg) (eq-eqb l.var l.var refl) (its_sign l.neg)
+
+one_of : (b c : Bool) → (b || c) ≡ true → (b ≡ true) ⊎ (c ≡ true)
+one_of true c h = inl refl
+one_of false c h = inr h
+
+-- what holds of each literal of a list holds of each that is in its set
+pub among-all : (P : Lit → Type 0) (ls : List Lit) (l : Lit) → AllByRecursion P ls → among ls l ≡ true → P l
+among-all P [] l h e = absurd (cc)
+among-all P (x ∷ xs) l h e = elim (one_of (is_same_lit l x) (among xs l) e) [
+  | inl s ↦ subst P (sym (same_lit l x s)) h.0
+  | inr s ↦ among-all P xs l h.1 s
+]
 
 -- ---- sizes
 

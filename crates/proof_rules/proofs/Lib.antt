@@ -10,3 +10,9 @@ pub mod Canonical
 pub mod FarBounds
 pub mod Matchings
 pub mod Told
+mod Worked
+mod WorkedTexts
+mod WorkedClosures
+pub mod Numbers
+pub mod Learned
+mod WorkedNotes

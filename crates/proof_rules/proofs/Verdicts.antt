@@ -1,15 +1,15 @@
 -- A text has one verdict at most, and what is accepted is true.
-use Rattle.std.proofs.Common.{◌≡◌, ℕ, zero, suc, List, [], ◌∷◌, ◌++◌, inl, inr, refl, sym, ap, ◌∙◌, subst}
+use Rattle.std.proofs.Common.{◌≡◌, ℕ, zero, suc, ◌+◌, ap₂, List, [], ◌∷◌, ◌++◌, inl, inr, refl, sym, ap, ◌∙◌, subst}
 use Rattle.std.specs.Prelude.{Some, None, Result, Ok, Err}
 use Rattle.pb_rows.specs.Formula.{Formula}
 use Rattle.proof_lines.specs.declared.line.Claim.{Claim}
 use Rattle.proof_lines.specs.declared.line.Line.{Line}
 use Rattle.proof_lines.specs.declared.line.Line.TheVariants.{Header, Count, Pol, Rup, Soli, Del, Output, Conclusion, End, Comment, Blank}
-use Rattle.proof_rules.specs.Refusals.{Refusal, and_then}
+use Rattle.proof_rules.specs.Refusals.{Refusal, RefusalAt, and_then}
 use Rattle.proof_rules.specs.States.{State, Step}
 use Rattle.proof_rules.specs.Valid.{Place, Start, Proving, Done, next_place, Moves}
 use Rattle.proof_rules.specs.Refused.{Refuses}
-use Rattle.proof_rules.specs.Texts.{cut, Reading, whole_lines, last_line, all_lines, Reaches, Stops, IsValidText, IsRefusedText, IsTruncated}
+use Rattle.proof_rules.specs.Texts.{Accepted, IsRefusedAt, IsRefusedText, IsTruncated, IsValidText, OneVerdict, Reaches, Reading, Refused, Stops, Truncated, all_lines, cut, last_line, whole_lines}
 use Rattle.proof_rules.specs.Sound.{ProofTextsAreSound}
 use Rattle.proof_rules.proofs.Soundness.{IsSoundPlace, to, moved}
 
@@ -87,6 +87,44 @@ valid-not_refused f bytes claim n why v (inr s) = reaches-not_stopped f Start (a
 pub truncated-not_refused : (f : Formula) (bytes : List ℕ) (n : ℕ) (why : Refusal) → IsTruncated f bytes → IsRefusedText f bytes n why → ⊥
 truncated-not_refused f bytes n why t (inl s) = reaches-not_stopped f Start (whole_lines bytes) t.here n why t.reaches s
 truncated-not_refused f bytes n why t (inr s) = t.not_done s.0 (reaches-unique f Start (whole_lines bytes) t.here (Done s.0) t.reaches s.1)
+
+-- the first refused line, and why it is
+pub stops-unique : (f : Formula) (here : Place) (lines : Reading) (n m : ℕ) (a b : Refusal) → Stops f here lines n a → Stops f here lines m b → (n ≡ m) × (a ≡ b)
+stops-unique f here [] n m a b s t = absurd s
+stops-unique f here (None ∷ lines) zero zero a b s t = (refl, s ∙ sym t)
+stops-unique f here (None ∷ lines) (suc n) m a b s t = absurd s
+stops-unique f here (None ∷ lines) zero (suc m) a b s t = absurd t
+stops-unique f here (Some line ∷ lines) zero zero a b s t = (refl, refusals-unique f here line a b s t)
+stops-unique f here (Some line ∷ lines) zero (suc m) a b s t = absurd (moves-not_refused f here line t.0 a t.1 s)
+stops-unique f here (Some line ∷ lines) (suc n) zero a b s t = absurd (moves-not_refused f here line s.0 b s.1 t)
+stops-unique f here (Some line ∷ lines) (suc n) (suc m) a b s t =
+    let rest = stops-unique f s.0 lines n m a b s.2 (subst (λ (p : Place). Stops f p lines m b) (moves-unique f here line t.0 s.0 t.1 s.1) t.2) in
+    (ap suc rest.0, rest.1)
+
+pub refused-unique : (f : Formula) (bytes : List ℕ) (n m : ℕ) (a b : Refusal) → IsRefusedText f bytes n a → IsRefusedText f bytes m b → (n ≡ m) × (a ≡ b)
+refused-unique f bytes n m a b (inl s) (inl t) = stops-unique f Start (whole_lines bytes) n m a b s t
+refused-unique f bytes n m a b (inr s) (inr t) = stops-unique f Start (all_lines bytes) n m a b s.2 t.2
+refused-unique f bytes n m a b (inl s) (inr t) = absurd (reaches-not_stopped f Start (whole_lines bytes) (Done t.0) n a t.1 s)
+refused-unique f bytes n m a b (inr s) (inl t) = absurd (reaches-not_stopped f Start (whole_lines bytes) (Done s.0) m b s.1 t)
+
+same_at : (a b : RefusalAt) → a.line ≡ b.line → a.why ≡ b.why → a ≡ b
+same_at a b e h = ap₂ (λ (n : ℕ) (why : Refusal). record { line = n; why = why }) e h
+
+refused_at-unique : (f : Formula) (bytes : List ℕ) (a b : RefusalAt) → IsRefusedAt f bytes a → IsRefusedAt f bytes b → a ≡ b
+refused_at-unique f bytes a b r s =
+    let same = refused-unique f bytes r.0 s.0 a.why b.why r.2 s.2 in
+    same_at a b (r.1 ∙ ap (λ (n : ℕ). n + 1) same.0 ∙ sym s.1) same.1
+
+pub one_verdict : OneVerdict
+one_verdict f bytes (Accepted a) (Accepted b) h k = ap Accepted (claim-unique f bytes a b h k)
+one_verdict f bytes (Accepted a) (Refused b) h k = absurd (valid-not_refused f bytes a k.0 b.why h k.2)
+one_verdict f bytes (Accepted a) Truncated h k = absurd (k.not_ended a h)
+one_verdict f bytes (Refused a) (Accepted b) h k = absurd (valid-not_refused f bytes b h.0 a.why k h.2)
+one_verdict f bytes (Refused a) (Refused b) h k = ap Refused (refused_at-unique f bytes a b h k)
+one_verdict f bytes (Refused a) Truncated h k = absurd (truncated-not_refused f bytes h.0 a.why k h.2)
+one_verdict f bytes Truncated (Accepted b) h k = absurd (h.not_ended b k)
+one_verdict f bytes Truncated (Refused b) h k = absurd (truncated-not_refused f bytes k.0 b.why h k.2)
+one_verdict f bytes Truncated Truncated h k = refl
 
 -- ---- steps
 

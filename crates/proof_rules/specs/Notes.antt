@@ -1,5 +1,5 @@
 -- When a note is true: honest loads, and fresh and later learned rows.
-use Rattle.std.specs.Prelude.{◌≡◌, ℕ, ◌<◌, Bool, true, false, not, ◌&&◌, ◌||◌, ◌==◌, nat_lt, if◌then◌else◌, IsTrue, IsFalse, List, [], ◌∷◌, ◌++◌, length, count_by, Contains, All, Some}
+use Rattle.std.specs.Prelude.{◌≡◌, ℕ, ◌+◌, ◌<◌, Bool, true, false, not, ◌&&◌, ◌||◌, ◌==◌, nat_lt, if◌then◌else◌, IsTrue, IsFalse, List, [], ◌∷◌, ◌++◌, length, count_by, Contains, All, Some}
 use Rattle.std.specs.List.{list_any}
 use Rattle.hrt_base.specs.declared.literal.Lit.{Lit}
 use Rattle.hrt_base.specs.declared.literal.Term.{Term}
@@ -68,9 +68,9 @@ pub record Fresh (held : List PlainRow) (row : PlainRow) (decisions : List Lit) 
 abbrev pub with_lit : Lit → Literals → Literals
 with_lit l set k = is_same_lit k l || set k
 
--- how many of the variables up to vars have a literal in the set
+-- how many literals over the variables up to vars are in the set
 abbrev pub set_size : ℕ → Literals → ℕ
-set_size vars set = count_by (λ v. set (record { var = v; neg = false }) || set (record { var = v; neg = true })) (numbers_to vars)
+set_size vars set = count_by (λ v. set (record { var = v; neg = false })) (numbers_to vars) + count_by (λ v. set (record { var = v; neg = true })) (numbers_to vars)
 
 -- The sizes of the closures under more and more of the decisions; the literal is put into the last.
 abbrev pub HaveSizes : ℕ → List PlainRow → List Lit → List Lit → Lit → List ℕ → Type 0

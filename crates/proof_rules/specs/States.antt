@@ -1,5 +1,5 @@
 -- States of a proof, and the steps between them.
-use Rattle.std.specs.Prelude.{◌≡◌, ℕ, ◌+◌, ◌^◌, Bool, not, ◌&&◌, ◌==◌, nat_le, if◌then◌else◌, List, [], ◌∷◌, ◌++◌, map, filter, length, count_by, ℤ, pos, ◌-ℤ◌, neg_ℤ, int_lt, Option, Some, None, Result, Ok, Err}
+use Rattle.std.specs.Prelude.{◌≡◌, ◌≤◌, ℕ, ◌+◌, ◌^◌, Bool, not, ◌&&◌, ◌==◌, nat_le, if◌then◌else◌, List, [], ◌∷◌, ◌++◌, map, filter, length, count_by, ℤ, pos, ◌-ℤ◌, neg_ℤ, int_lt, Option, Some, None, Result, Ok, Err}
 use Rattle.std.specs.List.{list_all, list_any}
 use Rattle.hrt_base.specs.declared.literal.Lit.{Lit}
 use Rattle.hrt_base.specs.declared.literal.Term.{Term}
@@ -25,6 +25,15 @@ pub record State : Type 0 where
 
 abbrev pub live_rows : State → List PlainRow
 live_rows s = rows_of s.live
+
+-- the numbers rise, from low on and below high
+abbrev pub AreNumbered : ℕ → ℕ → List NumberedRow → Type 0
+AreNumbered low high [] = low ≤ high
+AreNumbered low high (entry ∷ entries) = (low ≤ entry.number) × AreNumbered (entry.number + 1) high entries
+
+-- no two live rows have one number, and none has the next
+abbrev pub IsInOrder : State → Type 0
+IsInOrder s = AreNumbered 1 s.next s.live
 
 -- the formula's rows are live
 abbrev pub first_state : Formula → State

@@ -77,3 +77,19 @@ pub record IsTruncated (f : Formula) (bytes : List ℕ) : Type 0 where
   pub reaches : Reaches f Start (whole_lines bytes) here
   pub not_done : (claim : Claim) → here ≡ Done claim → ⊥
   pub not_ended : (claim : Claim) → IsValidText f bytes claim → ⊥
+
+-- ---- all of them
+
+pub data Verdict : Type 0 where
+  Accepted : Claim → Verdict
+  Refused : RefusalAt → Verdict
+  Truncated : Verdict
+
+abbrev pub HasVerdict : Formula → List ℕ → Verdict → Type 0
+HasVerdict f bytes (Accepted claim) = IsValidText f bytes claim
+HasVerdict f bytes (Refused refusal) = IsRefusedAt f bytes refusal
+HasVerdict f bytes Truncated = IsTruncated f bytes
+
+-- no text has two verdicts
+abbrev pub OneVerdict : Type 0
+OneVerdict = (f : Formula) (bytes : List ℕ) (a b : Verdict) → HasVerdict f bytes a → HasVerdict f bytes b → a ≡ b

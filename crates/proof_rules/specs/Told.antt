@@ -1,17 +1,18 @@
 -- What the lines of a proof tell: where they lead, which rows are held on the way, and the notes between them.
 use Rattle.std.specs.Prelude.{◌≡◌, ℕ, List, [], ◌∷◌, ◌++◌, Option, Some, None, Result, Ok, Err, All}
-use Rattle.pb_rows.specs.Formula.{Formula, NumberedRow}
+use Rattle.pb_rows.specs.Formula.{Formula}
 use Rattle.rank_tables.specs.Instance.{Lists}
 use Rattle.stability_model.specs.Model.{formula}
 use Rattle.proof_lines.specs.declared.line.Line.{Line}
 use Rattle.proof_lines.specs.declared.note.Note.{Note}
+use Rattle.proof_lines.specs.declared.note.Note.TheVariants.{Learn}
 use Rattle.proof_lines.specs.Spelling.{read_line}
 use Rattle.proof_lines.specs.Notes.{note_in}
 use Rattle.proof_rules.specs.Refusals.{Refusal}
-use Rattle.proof_rules.specs.Valid.{Place, Start, Proving, Closing, next_place}
+use Rattle.proof_rules.specs.Valid.{Place, Start, Proving, next_place}
 use Rattle.proof_rules.specs.Texts.{Reaches, cut, whole_lines}
-use Rattle.proof_rules.specs.Held.{Held, after_any_note, after_line, first_held}
-use Rattle.proof_rules.specs.Notes.{IsTrueNote}
+use Rattle.proof_rules.specs.Held.{Held, after_any_note, after_line, first_held, held_rows}
+use Rattle.proof_rules.specs.Notes.{IsTrueNote, LearnedRow}
 
 pub record Told : Type 0 where
   pub place : Place
@@ -43,20 +44,15 @@ abbrev pub told_by : Formula → Told → List (List ℕ) → Told
 told_by f told [] = told
 told_by f told (text ∷ texts) = told_by f (told_after f told text) texts
 
--- a note, and what was live and held just before it
+-- a note, and where the proof was just before it
 pub record NoteAt : Type 0 where
-  pub live : List NumberedRow
+  pub place : Place
   pub held : Held
   pub note : Note
 
-abbrev pub live_at : Place → List NumberedRow
-live_at (Proving s) = s.live
-live_at (Closing s) = s.live
-live_at place = []
-
 abbrev pub noted : Told → Option Note → List NoteAt
 noted told None = []
-noted told (Some note) = record { live = live_at told.place; held = told.held; note = note } ∷ []
+noted told (Some note) = record { place = told.place; held = told.held; note = note } ∷ []
 
 -- the notes of the lines, in their order
 abbrev pub notes_by : Formula → Told → List (List ℕ) → List NoteAt
@@ -65,8 +61,13 @@ notes_by f told (text ∷ texts) = noted told (note_in text) ++ notes_by f (told
 
 -- ---- proofs of a model
 
+-- it stands among the steps, and what it says is so
+abbrev pub IsTrueIn : Lists → Place → Held → Note → Type 0
+IsTrueIn lists (Proving s) held note = IsTrueNote lists s.live held note
+IsTrueIn lists place held note = ⊥
+
 abbrev pub IsTrueAt : Lists → NoteAt → Type 0
-IsTrueAt lists at = IsTrueNote lists at.live at.held at.note
+IsTrueAt lists at = IsTrueIn lists at.place at.held at.note
 
 -- the notes of the whole lines of a text
 abbrev pub notes_of : Lists → List ℕ → List NoteAt
@@ -84,3 +85,14 @@ pub record Tells (lists : Lists) (bytes : List ℕ) (place : Place) (held : Held
 -- what each note of the bytes says is so
 abbrev pub AreTrueNotes : Lists → List ℕ → Type 0
 AreTrueNotes lists bytes = All (IsTrueAt lists) (notes_of lists bytes)
+
+-- ---- learned rows
+
+abbrev pub learned_in : Place → Held → Note → List LearnedRow
+learned_in (Proving s) held (Learn id decisions l) = record { held = held_rows s.live held; decisions = decisions; asserts = l } ∷ []
+learned_in place held note = []
+
+-- the learned rows of the notes, in their order
+abbrev pub learned_rows : List NoteAt → List LearnedRow
+learned_rows [] = []
+learned_rows (at ∷ notes) = learned_in at.place at.held at.note ++ learned_rows notes

@@ -4,6 +4,7 @@
 #![tactic(auto)]
 
 ghost use Rattle.proof_rules.specs.Matchings.{VerifiedBounds};
+ghost use Rattle.proof_rules.specs.Texts.{OneVerdict};
 ghost use Rattle.proof_rules.specs.Sound.{ProofTextsAreSound, ProofsAreSound};
 
 /// Whatever lines are a valid proof of a formula, its claim is true: no point that satisfies the formula passes the lower
@@ -17,6 +18,13 @@ pub fn proofs_are_sound()
 #[tactic(auto, using(crate::proofs::Verdicts::texts_sound))]
 pub fn proof_texts_are_sound()
     ensures { ProofTextsAreSound }
+{}
+
+/// No text has two verdicts: it is valid with one claim, or its first line that is no step is refused for one reason, or it
+/// ends early.
+#[tactic(auto, using(crate::proofs::Verdicts::one_verdict))]
+pub fn verdicts_are_unique()
+    ensures { OneVerdict }
 {}
 
 /// Whatever bytes are a valid proof of an instance's model with the bounds L and U, every weakly stable matching has at most

@@ -1,0 +1,147 @@
+-- Notes, worked by hand: which rows they hold, an honest load, a fresh learned row and its sizes.
+use Rattle.std.specs.Prelude.{◌≡◌, ◌<◌, ◌≤◌, ℕ, ◌+◌, Bool, true, false, if◌then◌else◌, IsTrue, List, [], ◌∷◌, ◌++◌, flat_map, codes, refl}
+use Rattle.std.proofs.Common.{arith, sym}
+use Rattle.std.proofs.lemmas.Bool.{true≢false}
+use Rattle.std.proofs.lemmas.List.Elements.{All-from_recursion}
+use Rattle.hrt_base.specs.declared.literal.Lit.{Lit}
+use Rattle.pb_rows.specs.Terms.{PlainRow, opposite_lit}
+use Rattle.pb_rows.specs.Rows.{holds}
+use Rattle.pb_rows.specs.Closure.{IsClosure, IsQuiet, IsSettled, Keeps, Literals}
+use Rattle.stability_model.specs.Model.{point_of_pairs}
+use Rattle.proof_lines.specs.Spelling.{row_no}
+use Rattle.proof_lines.specs.declared.note.Note.TheVariants.{Load}
+use Rattle.proof_rules.specs.Valid.{Proving}
+use Rattle.proof_rules.specs.Held.{first_held, held_rows}
+use Rattle.proof_rules.specs.Notes.{Fresh, HaveSizes, HonestLoad, IsBroken, among, is_greater}
+use Rattle.proof_rules.specs.Told.{NoteAt, held_by, notes_of}
+use Rattle.proof_rules.proofs.Learned.{among-all}
+use Rattle.proof_rules.proofs.Worked.{not_x, row, s0, tied, w, x}
+
+abbrev lined : List (List ℕ) → List ℕ
+lined texts = flat_map (λ text. text ++ 10 ∷ []) texts
+
+-- ---- held rows
+
+-- two residents and two hospitals: rows 1 to 4
+first : first_held tied ≡ record { kept = 1 ∷ 2 ∷ 3 ∷ 4 ∷ []; learned = []; learn_notes = 0 }
+first = refl
+
+text : List ℕ
+text = lined (codes "pseudo-Boolean proof version 2.0" ∷ codes "f 7" ∷ codes "* note load x2 : 5 7" ∷ codes "pol 5 7 +" ∷ codes "* note learn 8 : ~x1 : x3" ∷ codes "soli ~x1 x2 x3" ∷ codes "*note unit 8" ∷ codes "* note drop 8" ∷ codes "del id 8" ∷ [])
+
+held : held_by tied text ≡ record { kept = 1 ∷ 2 ∷ 3 ∷ 4 ∷ 5 ∷ 7 ∷ 9 ∷ []; learned = []; learn_notes = 1 }
+unfolding text
+held = refl
+
+-- the load note stands before all steps
+load_at : NoteAt
+load_at = record { place = Proving s0; held = first_held tied; note = Load (2 ∷ []) (row_no 5 ∷ row_no 7 ∷ []) }
+
+abbrev noted_first : List NoteAt → List NoteAt
+noted_first [] = []
+noted_first (note ∷ notes) = note ∷ []
+
+load-first : noted_first (notes_of tied text) ≡ load_at ∷ []
+unfolding text load_at
+load-first = refl
+
+-- ---- an honest load: at the second pair alone the rows of the first and of the third pair don't hold
+
+honest : HonestLoad tied (held_rows s0.live (first_held tied)) (2 ∷ []) (row_no 5 ∷ row_no 7 ∷ [])
+honest = record {
+  some = omega arith;
+  held_hold = All-from_recursion (λ (r : PlainRow). IsTrue (holds (point_of_pairs (2 ∷ [])) r)) (held_rows s0.live (first_held tied)) (refl, (refl, (refl, (refl, tt))));
+  broken = All-from_recursion (IsBroken tied (point_of_pairs (2 ∷ []))) (row_no 5 ∷ row_no 7 ∷ []) ((1, (omega arith, omega arith), refl, refl), ((3, (omega arith, omega arith), refl, refl), tt));
+}
+
+-- ---- a fresh row: x1 + x2 >= 1 is held, ~x1 is decided, and ~x2 + x3 >= 1 makes x3 true
+
+abbrev either : PlainRow
+either = row (w 1 (x 1) ∷ w 1 (x 2) ∷ []) 1
+
+abbrev learned : PlainRow
+learned = row (w 1 (not_x 2) ∷ w 1 (x 3) ∷ []) 1
+
+abbrev decided : List Lit
+decided = not_x 1 ∷ []
+
+abbrev closed : Literals
+closed = among (not_x 1 ∷ x 2 ∷ [])
+
+none-closure : IsClosure (either ∷ []) (among []) (among [])
+none-closure = record {
+  quiet = record {
+    has_given = λ l g. g;
+    consistent = λ l t. refl;
+    kept = All-from_recursion (Keeps (among [])) (either ∷ []) (
+      record {
+        unfalsified = omega arith;
+        settled = All-from_recursion (IsSettled (among []) either) either.terms ((λ f below. absurd (omega (arith, below))), ((λ f below. absurd (omega (arith, below))), tt));
+      },
+      tt,
+    );
+  };
+  least = λ other q l t. absurd (true≢false (sym t));
+}
+
+closed-closure : IsClosure (either ∷ []) (among decided) closed
+closed-closure = record {
+  quiet = record {
+    has_given = λ l g. among-all (λ k. closed k ≡ true) decided l (refl, tt) g;
+    consistent = λ l t. among-all (λ k. closed (opposite_lit k) ≡ false) (not_x 1 ∷ x 2 ∷ []) l (refl, (refl, tt)) t;
+    kept = All-from_recursion (Keeps closed) (either ∷ []) (
+      record {
+        unfalsified = omega arith;
+        settled = All-from_recursion (IsSettled closed either) either.terms ((λ f below. absurd (true≢false f)), ((λ f below. refl), tt));
+      },
+      tt,
+    );
+  };
+  least = λ other q l t. among-all (λ k. other k ≡ true) (not_x 1 ∷ x 2 ∷ []) l (first_in other q, (second_in other q, tt)) t;
+}
+  where
+    first_in : (other : Literals) → IsQuiet (either ∷ []) (among decided) other → other (not_x 1) ≡ true
+    first_in other q = q.has_given (not_x 1) refl
+
+    open_sum : (a b : Bool) → a ≡ true → 1 ≤ (if a then 0 else 1) + ((if b then 0 else 1) + 0) → b ≡ false
+    open_sum true true e h = absurd (omega (arith, h))
+    open_sum true false e h = refl
+    open_sum false b e h = absurd (true≢false (sym e))
+
+    small : (a b : Bool) → a ≡ true → (if a then 0 else 1) + ((if b then 0 else 1) + 0) < 1 + 1
+    small true true e = omega arith
+    small true false e = omega arith
+    small false b e = absurd (true≢false (sym e))
+
+    second_in : (other : Literals) → IsQuiet (either ∷ []) (among decided) other → other (x 2) ≡ true
+    second_in other q =
+        let kept : Keeps other either = q.kept 0 either (omega arith) in
+        let unfalse : other (not_x 2) ≡ false = open_sum (other (not_x 1)) (other (not_x 2)) (first_in other q) kept.unfalsified in
+        kept.settled 1 (w 1 (x 1)) (omega arith) unfalse (small (other (not_x 1)) (other (not_x 2)) (first_in other q))
+
+fresh : Fresh (either ∷ []) learned decided (x 3)
+fresh = record {
+  decided = ((among [], none-closure, record { not_true = refl; not_false = refl }), tt);
+  set = closed;
+  closure = closed-closure;
+  leaves_open = record { not_true = refl; not_false = refl };
+  asserts = (w 1 (x 3), (1, omega arith, refl), refl, record { free = refl; exceeds = omega arith });
+}
+
+-- no literal is in the first closure, and two in the second, with the learned one three
+sizes : HaveSizes 3 (either ∷ []) [] decided (x 3) (0 ∷ 3 ∷ [])
+sizes = (among [], 3 ∷ [], none-closure, refl, (closed, closed-closure, refl))
+
+-- ---- dictionary order
+
+greater-first : is_greater (2 ∷ []) (1 ∷ 5 ∷ []) ≡ true
+greater-first = refl
+
+greater-longer : is_greater (1 ∷ 5 ∷ []) (1 ∷ []) ≡ true
+greater-longer = refl
+
+greater-prefix : is_greater (1 ∷ []) (1 ∷ 5 ∷ []) ≡ false
+greater-prefix = refl
+
+greater-same : is_greater (1 ∷ 5 ∷ []) (1 ∷ 5 ∷ []) ≡ false
+greater-same = refl

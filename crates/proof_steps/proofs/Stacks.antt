@@ -1,33 +1,19 @@
 -- What steps do to a stack of rows.
-use Rattle.std.proofs.Common.{◌≡◌, ℕ, suc, ◌+◌, ◌<◌, ◌^◌, Bool, true, false, List, [], ◌∷◌, length, get_or, drop, pos, nat_le, if◌then◌else◌, Ok, Err, Result, refl, sym, ap, ◌∙◌, lit≤, arith, add-one, drop-cons}
-use Rattle.std.proofs.lemmas.Bool.{and_parts, leb-true}
+use Rattle.std.proofs.Common.{◌≡◌, ℕ, suc, ◌+◌, ◌<◌, Bool, true, false, List, [], ◌∷◌, length, get_or, drop, pos, if◌then◌else◌, Ok, Err, Result, refl, sym, ap, ◌∙◌, arith, add-one, drop-cons}
 use Rattle.hrt_base.specs.declared.literal.Lit.{Lit}
-use Rattle.pb_rows.specs.Terms.{PlainRow, coef_sum, weighing}
+use Rattle.pb_rows.specs.Terms.{PlainRow, weighing}
 use Rattle.pb_rows.specs.Normal.{normal_form}
-use Rattle.pb_rows.specs.Rows.{Fits, IsNormal, literal_row}
+use Rattle.pb_rows.specs.Rows.{Fits, literal_row}
 use Rattle.pb_rows.specs.Formula.{NumberedRow}
-use Rattle.pb_rows.proofs.Forms.{merged_is}
+use Rattle.proof_rules.proofs.Fits.{fits-literal_row, true_fits}
+use Rattle.proof_rules.proofs.Canonical.{normal_form-normal}
 use Rattle.proof_lines.specs.declared.line.PolStep.{PolStep}
 use Rattle.proof_rules.specs.Refusals.{Refusal, TooBig, and_then}
 use Rattle.proof_rules.specs.Pol.{fits, on_top, push_made, run_step, run_steps}
 
 -- the row that a literal is at least 0, as `from_terms` makes it
-abbrev empty_row : PlainRow
-empty_row = record { terms = []; degree = 0 }
-
-literal_normal : (l : Lit) → IsNormal (literal_row l)
-literal_normal l = record { rising = (omega arith, omega arith, tt); fits = record { sum = lit≤ tt; degree = lit≤ tt } }
-
-empty_normal : IsNormal empty_row
-empty_normal = record { rising = tt; fits = record { sum = lit≤ tt; degree = lit≤ tt } }
-
 pub literal_row_is : (l : Lit) → normal_form (weighing 1 l ∷ []) (pos 0) ≡ literal_row l
-literal_row_is l = sym (merged_is (literal_row l) empty_row (literal_normal l) empty_normal)
-
-fits_means : (row : PlainRow) → fits row ≡ true → Fits row
-fits_means row h =
-    let parts = and_parts (nat_le (coef_sum row.terms) (2 ^ 120)) (nat_le row.degree (2 ^ 120)) h in
-    record { sum = leb-true (coef_sum row.terms) (2 ^ 120) parts.0; degree = leb-true row.degree (2 ^ 120) parts.1 }
+literal_row_is l = normal_form-normal (literal_row l) (record { rising = (omega arith, omega arith, tt); fits = fits-literal_row l })
 
 -- the row on top was changed and put back
 pub on_top_made : (change : PlainRow → PlainRow) (row made : PlainRow) (stack rest : List PlainRow) (answer : Result (List PlainRow) Refusal) → stack ≡ row ∷ rest → made ≡ change row → push_made made rest ≡ answer → on_top change stack ≡ answer
@@ -38,7 +24,7 @@ pub on_top_refused : (change : PlainRow → PlainRow) (row : PlainRow) (stack re
 on_top_refused change row stack rest e h = ap (on_top change) e ∙ by (fits (change row)) refl
   where
     by : (b : Bool) → fits (change row) ≡ b → push_made (change row) rest ≡ Err TooBig
-    by true f = absurd (h (fits_means (change row) f))
+    by true f = absurd (h (true_fits (change row) f))
     by false f = ap (λ b. if b then Ok (change row ∷ rest) else Err TooBig) f
 
 -- the steps from place i on are the step there and those behind it

@@ -2,10 +2,13 @@
 #![tactic(auto)]
 
 mod live;
+mod made;
 mod pol;
 mod refusal;
+mod solution;
 mod stack;
 
 pub use live::LiveRows;
 pub use pol::pol_row;
 pub use refusal::StepRefusal;
+pub use solution::{improvement_row, objective_value};

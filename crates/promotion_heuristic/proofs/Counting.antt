@@ -1,6 +1,6 @@
 -- How many numbers pass a test that one more number passes than another, and sums of which one is smaller.
-use Rattle.std.proofs.Common.{◌≡◌, ℕ, zero, suc, ◌+◌, ◌*◌, ◌<◌, ◌≤◌, Bool, true, false, not, ◌&&◌, ◌||◌, ◌==◌, if◌then◌else◌, List, [], ◌∷◌, length, filter, count_by, sum_by, refl, sym, ap, ◌∙◌, inl, inr, subst, arith}
-use Rattle.std.proofs.lemmas.Bool.{true≢false, eqb-true, eq-eqb, ne_eqb, and_parts, or_cases, or_left, or_right, not-true, or_parts, false_from_ne_true, cases_Bool}
+use Rattle.std.proofs.Common.{◌≡◌, ℕ, suc, ◌+◌, ◌*◌, ◌<◌, ◌≤◌, Bool, true, false, not, ◌&&◌, ◌||◌, ◌==◌, if◌then◌else◌, List, [], ◌∷◌, length, filter, count_by, sum_by, refl, sym, ap, ◌∙◌, inl, inr, subst, arith}
+use Rattle.std.proofs.lemmas.Bool.{true≢false, eqb-true, eq-eqb, and_parts, or_cases, or_left, or_right, not-true, or_parts, false_from_ne_true, cases_Bool}
 use Rattle.std.proofs.lemmas.List.Sums.{sum_by-cons}
 use Rattle.rank_tables.specs.Numbers.{is_in, is_distinct}
 use Rattle.rank_tables.proofs.Numbers.{sum_by-filter, sum_by_same}
@@ -73,13 +73,13 @@ count_absent : (p : ℕ) (xs : List ℕ) → is_in p xs ≡ false → count_by (
 count_absent p [] h = refl
 count_absent p (x ∷ xs) h = absent_step p x xs (x == p) refl h (count_absent p xs)
   where
-  absent_step : (p x : ℕ) (xs : List ℕ) (b : Bool) → (x == p) ≡ b → (b || is_in p xs) ≡ false → (is_in p xs ≡ false → count_by (λ x. x == p) xs ≡ 0) →
-      count_by (λ x. x == p) (x ∷ xs) ≡ 0
-  absent_step p x xs true e h rest = absurd (true≢false h)
-  absent_step p x xs false e h rest =
-      let z : one_if (x == p) ≡ 0 = ap one_if e in
-      let later : count_by (λ x. x == p) xs ≡ 0 = rest h in
-      omega (arith, sum_by-cons (λ x. one_if (x == p)) x xs)
+    absent_step : (p x : ℕ) (xs : List ℕ) (b : Bool) → (x == p) ≡ b → (b || is_in p xs) ≡ false → (is_in p xs ≡ false → count_by (λ x. x == p) xs ≡ 0) →
+        count_by (λ x. x == p) (x ∷ xs) ≡ 0
+    absent_step p x xs true e h rest = absurd (true≢false h)
+    absent_step p x xs false e h rest =
+        let z : one_if (x == p) ≡ 0 = ap one_if e in
+        let later : count_by (λ x. x == p) xs ≡ 0 = rest h in
+        omega (arith, sum_by-cons (λ x. one_if (x == p)) x xs)
 
 count_it : (p : ℕ) (xs : List ℕ) → is_distinct xs ≡ true → is_in p xs ≡ true → count_by (λ x. x == p) xs ≡ 1
 count_it p [] d i = absurd (true≢false (sym i))
@@ -93,7 +93,7 @@ count_it p (x ∷ xs) d i =
           omega (arith, sum_by-cons (λ x. one_if (x == p)) x xs)
       | inr e ↦
           let zero_here : one_if (x == p) ≡ 0 = ap one_if e in
-          let there : is_in p xs ≡ true = elim (or_cases _ _ i) [ | inl s ↦ absurd (true≢false (sym s ∙ e)) | inr s ↦ s ] in
+          let there : is_in p xs ≡ true = elim (or_cases _ _ i) [ inl s ↦ absurd (true≢false (sym s ∙ e)) | inr s ↦ s ] in
           let one : count_by (λ x. x == p) xs ≡ 1 = count_it p xs apart.1 there in
           omega (arith, sum_by-cons (λ x. one_if (x == p)) x xs)
     ]
@@ -121,3 +121,17 @@ count_one t [] d h = omega arith
 count_one t (x ∷ xs) d h =
     let parts = and_parts (not (is_in x xs)) (is_distinct xs) d in
     one_step t x xs (t x) refl (not-true _ parts.0) h (count_one t xs parts.1 h)
+
+-- where none passes, each fails
+pub count_zero : (t : ℕ → Bool) (x : ℕ) (xs : List ℕ) → count_by t xs ≡ 0 → is_in x xs ≡ true → t x ≡ false
+count_zero t x [] e i = absurd (true≢false (sym i))
+count_zero t x (y ∷ xs) e i =
+    let split = sum_by-cons (λ x. one_if (t x)) y xs in
+    elim (or_cases _ _ i) [
+      | inl same ↦ false_from_ne_true _ (λ h. let one : one_if (t y) ≡ 1 = ap one_if (ap t (eqb-true y x same) ∙ h) in omega arith)
+      | inr there ↦ count_zero t x xs (omega arith) there
+    ]
+
+pub count_all : {A : Type 0} (xs : List A) → count_by (λ x. true) xs ≡ length xs
+count_all [] = refl
+count_all (x ∷ xs) = omega (arith, sum_by-cons (λ x. 1) x xs, count_all xs)

@@ -1,19 +1,16 @@
 -- A full hospital takes the proposer in place of its worst resident; and so every step keeps what is fair.
-use Rattle.std.proofs.Common.{◌≡◌, ℕ, zero, suc, ◌+◌, ◌*◌, ◌<◌, ◌≤◌, Bool, true, false, not, ◌&&◌, ◌||◌, ◌==◌, nat_lt, nat_le, cond, List, [], ◌∷◌, length, map, get_or, Option, Some, None, option_map, unwrap_or, refl, sym, ap, ◌∙◌, ◌⊎◌, inl, inr, subst, arith}
-use Rattle.std.proofs.lemmas.Bool.{true≢false, eqb-true, eq-eqb, and_from, and_parts, and_left, or_cases, or_parts, or_left, or_right, ltb-false, leb-true, cases_Bool, false_from_ne_true, not-true, not_from_false, not_from_true}
-use Rattle.std.proofs.lemmas.List.{length-map}
-use Rattle.rank_tables.specs.declared.draft.DraftResident.{DraftResident}
-use Rattle.rank_tables.specs.Numbers.{numbers_to}
-use Rattle.rank_tables.specs.Instance.{Lists, pair_count, pair_at, rank_by_hospital, capacity_of}
+use Rattle.std.proofs.Common.{◌≡◌, ℕ, ◌+◌, ◌<◌, ◌≤◌, Bool, true, false, not, ◌&&◌, ◌||◌, ◌==◌, List, length, refl, sym, ap, ◌∙◌, ◌⊎◌, inl, inr, subst, arith}
+use Rattle.std.proofs.lemmas.Bool.{true≢false, eqb-true, eq-eqb, or_cases, or_left, or_right, cases_Bool, not_from_true}
+use Rattle.rank_tables.specs.Instance.{Lists, pair_at, rank_by_hospital, capacity_of}
 use Rattle.rank_tables.specs.Tables.{IsPairNo}
 use Rattle.rank_tables.proofs.PairFacts.{pair_at-acceptable}
 use Rattle.promotion_heuristic.specs.declared.standing.Standing.{Standing}
-use Rattle.promotion_heuristic.specs.Promotion.{at_top, start, standing_of, holds, held, is_lower, worst, taken, turned_away, compared, has_room, proposed, proposal, step, steps}
-use Rattle.promotion_heuristic.proofs.Counting.{one_if, count_by-filter_and, sum_within}
+use Rattle.promotion_heuristic.specs.Promotion.{standing_of, holds, is_lower, taken, turned_away}
+use Rattle.promotion_heuristic.proofs.Counting.{one_if}
 use Rattle.promotion_heuristic.proofs.Standings.{IsNext, standing-other, length-taken, length-turned_away, after-unassigned, holds-taken, holds-turned_away, came_to, Reaches, came_to-taken, came_to-turned_away, next-reached, held-reached, held-came_to, held-one}
-use Rattle.promotion_heuristic.proofs.Worst.{IsHeldAt, IsWorst, worst-some, worst-none, worst-rank, is_lower-rank, not_lower-rank}
-use Rattle.promotion_heuristic.proofs.Proposals.{IsProposal, proposal_is}
-use Rattle.promotion_heuristic.proofs.Fair.{uses, uses-more, IsFilled, IsFair, own-set, filled-still, declared, free-holds, fair-taken, fair-refused}
+use Rattle.promotion_heuristic.proofs.Worst.{IsWorst, worst-rank, is_lower-rank}
+use Rattle.promotion_heuristic.proofs.Proposals.{IsProposal}
+use Rattle.promotion_heuristic.proofs.Fair.{uses, uses-more, IsFilled, IsFair, own-set, filled-still, free-holds}
 
 -- a held pair's resident is another than the proposer
 pub held-apart : (lists : Lists) (s : List Standing) (p w : ℕ) → IsProposal lists s p → holds lists s w ≡ true → (pair_at lists p).resident ≡ (pair_at lists w).resident → ⊥
@@ -22,7 +19,7 @@ held-apart lists s p w a h e = true≢false (sym h ∙ free-holds lists s p w a 
 back : (a b c : Bool) → (a ≡ true → b ≡ true → c ≡ true) → (c ≡ true → a ≡ true) → (c ≡ true → b ≡ true) → a ≡ (a && not b || c)
 back true true c h k l = sym (h refl refl)
 back true false c h k l = refl
-back false b c h k l = elim (cases_Bool c) [ | inl e ↦ absurd (true≢false (sym (k e))) | inr e ↦ sym e ]
+back false b c h k l = elim (cases_Bool c) [ inl e ↦ absurd (true≢false (sym (k e))) | inr e ↦ sym e ]
 
 -- the pairs held before are those held after w is put out, and w
 pub holds-put_out : (lists : Lists) (s : List Standing) (w : ℕ) → (pair_at lists w).resident < length s → holds lists s w ≡ true → (q : ℕ) →
@@ -37,9 +34,9 @@ holds-put_out lists s w l h q =
 pub put_out-holds : (lists : Lists) (s : List Standing) (w : ℕ) → (pair_at lists w).resident < length s → holds lists (turned_away lists s w) w ≡ false
 put_out-holds lists s w l = holds-turned_away lists s w l w ∙ and_off (holds lists s w) _ (eq-eqb (pair_at lists w).resident _ refl)
   where
-  and_off : (a b : Bool) → b ≡ true → (a && not b) ≡ false
-  and_off true b e = not_from_true b e
-  and_off false b e = refl
+    and_off : (a b : Bool) → b ≡ true → (a && not b) ≡ false
+    and_off true b e = not_from_true b e
+    and_off false b e = refl
 
 -- what stands where w makes place for p
 pub record Exchanges (lists : Lists) (s : List Standing) (p w : ℕ) : Type 0 where

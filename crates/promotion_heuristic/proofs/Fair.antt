@@ -1,26 +1,22 @@
 -- What holds after every step: no hospital has more residents than posts, and each pair that its resident came to in vain has
 -- a hospital that is full with residents that it ranks at least as high.
-use Rattle.std.proofs.Common.{◌≡◌, ℕ, ◌+◌, ◌<◌, ◌≤◌, Bool, true, false, not, ◌&&◌, ◌||◌, ◌==◌, nat_lt, cond, List, length, set, Option, Some, None, refl, sym, ap, ◌∙◌, ◌⊎◌, inl, inr, subst, arith}
-use Rattle.std.proofs.lemmas.Bool.{true≢false, eqb-true, eqb-false, eq-eqb, ne_eqb, and_from, and_parts, or_cases, or_left, or_right, ltb-true, ltb-false, cases_eq, cases_Bool, false_from_ne_true, not-true, not_from_false}
+use Rattle.std.proofs.Common.{◌≡◌, ℕ, ◌+◌, ◌<◌, ◌≤◌, Bool, true, false, not, ◌&&◌, ◌||◌, ◌==◌, List, length, set, count_by, refl, sym, ap, ◌∙◌, ◌⊎◌, inl, inr, subst, arith}
+use Rattle.std.proofs.lemmas.Bool.{true≢false, eqb-true, eq-eqb, ne_eqb, and_parts, or_cases, or_left, or_right, ltb-true, cases_eq, cases_Bool, false_from_ne_true}
 use Rattle.rank_tables.specs.Numbers.{numbers_to}
 use Rattle.rank_tables.specs.Instance.{Lists, pair_count, pair_at, rank_by_hospital, capacity_of}
 use Rattle.rank_tables.specs.Stability.{uses_of_hospital}
 use Rattle.rank_tables.specs.Tables.{IsPairNo, IsOfResident}
 use Rattle.rank_tables.proofs.Numbers.{sum_by_same, distinct-numbers_to}
 use Rattle.promotion_heuristic.specs.declared.standing.Standing.{Standing}
-use Rattle.promotion_heuristic.specs.Promotion.{standing_of, is_promoted, holds, held, after, is_lower, worst, taken, turned_away, compared, has_room, proposed}
+use Rattle.promotion_heuristic.specs.Promotion.{standing_of, holds, held, taken, turned_away, has_room}
 use Rattle.promotion_heuristic.proofs.Counting.{one_if, count_by-filter_and, count_more}
-use Rattle.promotion_heuristic.proofs.Standings.{in_numbers, standing-same, standing-other, length-taken, length-turned_away, after-unassigned, holds-taken, holds-turned_away, came_to, Reaches, came_to-taken, came_to-turned_away, next-reached, held-reached, held-came_to, held-one, holds-other}
-use Rattle.promotion_heuristic.proofs.Worst.{IsHeldAt, IsWorst, worst-some, worst-none, worst-rank, is_lower-rank, not_lower-rank}
+use Rattle.promotion_heuristic.proofs.Standings.{in_numbers, standing-same, standing-other, length-taken, length-turned_away, after-unassigned, holds-taken, holds-turned_away, came_to, Reaches, came_to-taken, came_to-turned_away, next-reached}
+use Rattle.promotion_heuristic.proofs.Worst.{IsHeldAt}
 use Rattle.promotion_heuristic.proofs.Proposals.{IsProposal}
 
 -- how many residents a hospital has
 abbrev pub uses : Lists → List Standing → ℕ → ℕ
 uses lists s h = uses_of_hospital lists (held lists s) h
-
--- whether a pair is held at a hospital
-abbrev is_at : Lists → List Standing → ℕ → ℕ → Bool
-is_at lists s h q = holds lists s q && (pair_at lists q).hospital == h
 
 absorbed : (a b c : Bool) → (b ≡ true → c ≡ true) → ((a || b) && c) ≡ (a && c || b)
 absorbed true true c h = ap (λ x. x) (h refl) ∙ sym (ap (λ x. x || true) (h refl))
@@ -34,30 +30,35 @@ dropped true b c h = refl
 dropped false true c h = h refl
 dropped false false c h = refl
 
--- one pair more that is held is one resident more at its hospital
+-- one pair more that is held is one more that passes a test, if it does
+pub held-more : (lists : Lists) (s t : List Standing) (p : ℕ) → IsPairNo lists p → holds lists s p ≡ false →
+    ((q : ℕ) → holds lists t q ≡ (holds lists s q || q == p)) → (g : ℕ → Bool) →
+    count_by (λ q. holds lists t q && g q) (numbers_to (pair_count lists)) ≡ count_by (λ q. holds lists s q && g q) (numbers_to (pair_count lists)) + one_if (g p)
+held-more lists s t p n free e g =
+    let nums = numbers_to (pair_count lists) in
+    let old : ℕ → Bool = λ q. holds lists s q && g q in
+    let new : ℕ → Bool = λ q. holds lists t q && g q in
+    elim (cases_Bool (g p)) [
+      | inl here ↦
+          count_more old new p nums (distinct-numbers_to (pair_count lists)) (in_numbers lists p n)
+          (ap (λ b. b && g p) free)
+          (λ q. ap (λ b. b && g q) (e q) ∙ absorbed (holds lists s q) (q == p) (g q) (λ same. ap g (eqb-true q p same) ∙ here))
+          ∙ ap (λ b. count_by old nums + one_if b) (sym here)
+      | inr apart ↦
+          let same : count_by new nums ≡ count_by old nums =
+          sum_by_same _ _ nums (λ q. ap one_if (ap (λ b. b && g q) (e q) ∙ dropped (holds lists s q) (q == p) (g q) (λ same. ap g (eqb-true q p same) ∙ apart))) in
+          let none : one_if (g p) ≡ 0 = ap one_if apart in
+          omega arith
+    ]
+
+pub uses-count : (lists : Lists) (s : List Standing) (h : ℕ) → uses lists s h ≡ count_by (λ q. holds lists s q && (pair_at lists q).hospital == h) (numbers_to (pair_count lists))
+uses-count lists s h = count_by-filter_and (holds lists s) (λ q. (pair_at lists q).hospital == h) (numbers_to (pair_count lists))
+
+-- and one resident more at its hospital
 pub uses-more : (lists : Lists) (s t : List Standing) (p : ℕ) → IsPairNo lists p → holds lists s p ≡ false →
     ((q : ℕ) → holds lists t q ≡ (holds lists s q || q == p)) → (h : ℕ) → uses lists t h ≡ uses lists s h + one_if ((pair_at lists p).hospital == h)
 uses-more lists s t p n free e h =
-    let hospital : ℕ → ℕ = λ q. (pair_at lists q).hospital in
-    let nums = numbers_to (pair_count lists) in
-    let to_t = count_by-filter_and (holds lists t) (λ q. hospital q == h) nums in
-    let to_s = count_by-filter_and (holds lists s) (λ q. hospital q == h) nums in
-    elim (cases_Bool (hospital p == h)) [
-      | inl here ↦
-          to_t
-          ∙ count_more (is_at lists s h) (is_at lists t h) p nums (distinct-numbers_to (pair_count lists)) (in_numbers lists p n)
-          (ap (λ b. b && hospital p == h) free)
-          (λ q. ap (λ b. b && hospital q == h) (e q) ∙ absorbed (holds lists s q) (q == p) (hospital q == h) (λ same. ap (λ z. hospital z == h) (eqb-true q p same) ∙ here))
-          ∙ ap (λ k. k + 1) (sym to_s) ∙ ap (λ b. uses lists s h + one_if b) (sym here)
-      | inr apart ↦
-          let same : uses lists t h ≡ uses lists s h =
-          to_t
-          ∙ sum_by_same _ _ nums (λ q. ap one_if (ap (λ b. b && hospital q == h) (e q)
-          ∙ dropped (holds lists s q) (q == p) (hospital q == h) (λ same. ap (λ z. hospital z == h) (eqb-true q p same) ∙ apart)))
-          ∙ sym to_s in
-          let none : one_if (hospital p == h) ≡ 0 = ap one_if apart in
-          omega arith
-    ]
+    uses-count lists t h ∙ held-more lists s t p n free e (λ q. (pair_at lists q).hospital == h) ∙ ap (λ k. k + one_if ((pair_at lists p).hospital == h)) (sym (uses-count lists s h))
 
 pub record IsFilled (lists : Lists) (s : List Standing) (q : ℕ) : Type 0 where
   pub full : capacity_of lists (pair_at lists q).hospital ≤ uses lists s (pair_at lists q).hospital
@@ -127,7 +128,7 @@ fair-taken lists s p f a room =
       refused = λ q n c none.
           let none_before : holds lists s q ≡ false = false_from_ne_true _ (λ h. true≢false (sym (or_left _ (q == p) h) ∙ sym (holds_t q) ∙ none)) in
           let other : q ≡ p → ⊥ = λ e. true≢false (sym (or_right (holds lists s q) _ (eq-eqb q p e)) ∙ sym (holds_t q) ∙ none) in
-          let before : came_to lists s q ≡ true = elim (came_to-taken lists s p q (reached lists s p f a) n c) [ | inl b ↦ b | inr e ↦ absurd (other e) ] in
+          let before : came_to lists s q ≡ true = elim (came_to-taken lists s p q (reached lists s p f a) n c) [ inl b ↦ b | inr e ↦ absurd (other e) ] in
           let was : IsFilled lists s q = f.refused q n before none_before in
           filled-still lists s t q (omega (arith, counted (pair_at lists q).hospital))
           (λ o b. elim (or_cases (holds lists s o) (o == p) (sym (holds_t o) ∙ b.held)) [
@@ -153,9 +154,9 @@ fair-refused lists s p f a filled =
     let holds_t : (q : ℕ) → holds lists t q ≡ holds lists s q =
     λ q. holds-turned_away lists s p (declared lists s p f a) q ∙ kept_all _ _ (λ same. free-holds lists s p q a (eqb-true _ _ same)) in
     let counted : (h : ℕ) → uses lists t h ≡ uses lists s h = λ h.
-    count_by-filter_and (holds lists t) (λ q. (pair_at lists q).hospital == h) (numbers_to (pair_count lists))
+    uses-count lists t h
     ∙ sum_by_same _ _ (numbers_to (pair_count lists)) (λ q. ap one_if (ap (λ b. b && (pair_at lists q).hospital == h) (holds_t q)))
-    ∙ sym (count_by-filter_and (holds lists s) (λ q. (pair_at lists q).hospital == h) (numbers_to (pair_count lists))) in
+    ∙ sym (uses-count lists s h) in
     let still : (q : ℕ) → IsFilled lists s q → IsFilled lists t q =
     λ q. filled-still lists s t q (omega (arith, counted (pair_at lists q).hospital)) (λ o b. inl (sym (holds_t o) ∙ b.held)) in
     record {

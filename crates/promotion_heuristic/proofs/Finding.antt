@@ -1,8 +1,8 @@
 -- The first number that passes a test.
-use Rattle.std.proofs.Common.{◌≡◌, ℕ, zero, suc, ◌<◌, ◌≤◌, Bool, true, false, cond, nat_le, nat_lt, List, [], ◌∷◌, Option, Some, None, refl, sym, ap, ◌∙◌, inl, inr, subst, arith}
+use Rattle.std.proofs.Common.{◌≡◌, ℕ, zero, suc, ◌<◌, ◌≤◌, Bool, true, false, cond, List, [], ◌∷◌, Option, Some, None, refl, sym, ap, ◌∙◌, inl, inr, arith}
 use Rattle.std.specs.List.{find}
 use Rattle.std.specs.Option.{option_or}
-use Rattle.std.proofs.lemmas.Bool.{true≢false, eqb-true, eq-eqb, and_from, and_parts, or_cases, or_parts, or_left, or_right, le-leb, leb-true, lt-ltb, ltb-true, cases_lt, cases_eq, cases_Bool}
+use Rattle.std.proofs.lemmas.Bool.{true≢false, eqb-true, eq-eqb, and_from, or_cases, or_left, or_right, le-leb, ltb-true, cases_lt}
 use Rattle.std.proofs.lemmas.List.Folds.{find-append}
 use Rattle.rank_tables.specs.Numbers.{below, numbers_to, is_in}
 use Rattle.rank_tables.proofs.Numbers.{is_in-below, is_in-numbers_to}
@@ -52,7 +52,7 @@ least_step : (t : ℕ → Bool) (n p : ℕ) (o : Option ℕ) → find t (numbers
 least_step t n p (Some r) e before h q a b = let same : r ≡ p = cc in before r e q a (omega arith)
 least_step t n p None e before h q a b =
     let last = found t p (suc n ∷ []) h in
-    let is : suc n ≡ p = elim (or_cases _ _ last.0) [ | inl s ↦ eqb-true _ _ s | inr s ↦ absurd (true≢false (sym s)) ] in
+    let is : suc n ≡ p = elim (or_cases _ _ last.0) [ inl s ↦ eqb-true _ _ s | inr s ↦ absurd (true≢false (sym s)) ] in
     none_found t q (numbers_to n) e (is_in-numbers_to n q ∙ and_from _ _ (le-leb 1 q a) (le-leb q n (omega arith)))
 
 -- those before the first one fail

@@ -9,3 +9,10 @@ pub mod Exchange
 pub mod Steps
 pub mod Written
 pub mod Stable
+pub mod HeapRows
+pub mod Keeping
+pub mod KeptWorst
+pub mod Rising
+pub mod MadeOf
+pub mod Chains
+pub mod Promoted

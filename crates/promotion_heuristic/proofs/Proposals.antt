@@ -1,8 +1,8 @@
 -- What is proposed, and what stands where nothing is.
-use Rattle.std.proofs.Common.{◌≡◌, ℕ, ◌<◌, ◌≤◌, Bool, true, false, not, ◌&&◌, List, length, find, Option, Some, None, is_some, refl, sym, ap, ◌∙◌, subst, arith}
+use Rattle.std.proofs.Common.{◌≡◌, ℕ, ◌<◌, Bool, true, false, not, ◌&&◌, List, length, find, Option, Some, None, is_some, refl, sym, ap, ◌∙◌, subst}
 use Rattle.std.specs.Option.{option_and_then}
-use Rattle.std.proofs.lemmas.Bool.{true≢false, and_from, and_parts, lt-ltb, ltb-true, not-true, not_from_false}
-use Rattle.rank_tables.specs.Numbers.{below, is_in}
+use Rattle.std.proofs.lemmas.Bool.{true≢false, and_parts, lt-ltb, not-true}
+use Rattle.rank_tables.specs.Numbers.{below}
 use Rattle.rank_tables.specs.Instance.{Lists, pair_at}
 use Rattle.rank_tables.specs.Tables.{IsPairNo}
 use Rattle.rank_tables.proofs.Numbers.{is_in-below}

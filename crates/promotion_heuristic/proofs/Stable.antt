@@ -1,22 +1,20 @@
 -- The matching with which the steps end is weakly stable.
-use Rattle.std.proofs.Common.{◌≡◌, ℕ, ◌+◌, ◌-◌, ◌<◌, ◌≤◌, Bool, true, false, not, ◌&&◌, ◌||◌, ◌==◌, nat_lt, nat_le, List, length, None, refl, sym, ap, ◌∙◌, inl, inr, subst, arith}
-use Rattle.std.specs.List.{list_any, list_all}
-use Rattle.std.proofs.lemmas.Bool.{true≢false, eqb-true, eq-eqb, and_from, and_parts, or_cases, or_parts, or_from, le-leb, le-ltb, leb-true, lt-ltb, ltb-true, not_from_true, not_from_false, not-true, cases_lt, cases_eq, cases_Bool, false_from_ne_true, or_right, or_left}
+use Rattle.std.proofs.Common.{◌≡◌, ℕ, ◌<◌, ◌≤◌, Bool, true, false, not, ◌&&◌, ◌==◌, nat_lt, List, None, refl, sym, ap, ◌∙◌, inl, inr, subst, arith}
+use Rattle.std.proofs.lemmas.Bool.{true≢false, eqb-true, eq-eqb, and_from, and_parts, or_cases, or_from, le-leb, le-ltb, ltb-true, not_from_true, not_from_false, not-true, cases_lt, false_from_ne_true, or_right}
 use Rattle.rank_tables.specs.Numbers.{numbers_to, is_in}
-use Rattle.rank_tables.specs.Instance.{Lists, pair_count, pair_at, rank_by_resident, rank_by_hospital, capacity_of}
-use Rattle.rank_tables.specs.Stability.{is_matching, resident_wants, hospital_wants, blocks, is_weakly_stable, uses_of_resident, uses_of_hospital}
+use Rattle.rank_tables.specs.Instance.{Lists, pair_count, pair_at, rank_by_resident, rank_by_hospital}
+use Rattle.rank_tables.specs.Stability.{is_matching, resident_wants, hospital_wants, blocks, is_weakly_stable, uses_of_resident}
 use Rattle.rank_tables.specs.Tables.{IsPairNo, IsOfResident}
 use Rattle.rank_tables.specs.WellFormed.{IsWellFormed}
-use Rattle.rank_tables.proofs.Numbers.{element, all_at, all_from, is_in-filter, is_in-numbers_to, distinct-numbers_to}
-use Rattle.rank_tables.proofs.Membership.{are_pairs, chosen_distinct}
+use Rattle.rank_tables.proofs.Numbers.{element, all_at, all_from, is_in-filter, distinct-numbers_to}
+use Rattle.rank_tables.proofs.Membership.{chosen_distinct}
 use Rattle.rank_tables.proofs.PairFacts.{pair_at-acceptable}
 use Rattle.promotion_heuristic.specs.declared.standing.Standing.{Standing}
 use Rattle.promotion_heuristic.specs.Promotion.{standing_of, holds, held, proposal, promotion, final}
-use Rattle.promotion_heuristic.proofs.Counting.{one_if, count_by-filter_and, count_one}
+use Rattle.promotion_heuristic.proofs.Counting.{count_by-filter_and, count_one}
 use Rattle.promotion_heuristic.proofs.Standings.{in_numbers, from_numbers, none_next, came_to, held-one}
-use Rattle.promotion_heuristic.proofs.Worst.{IsHeldAt}
 use Rattle.promotion_heuristic.proofs.Proposals.{proposal_none}
-use Rattle.promotion_heuristic.proofs.Fair.{uses, IsFilled, IsFair}
+use Rattle.promotion_heuristic.proofs.Fair.{IsFilled, IsFair}
 use Rattle.promotion_heuristic.proofs.Steps.{final-ended, final-fair}
 use Rattle.promotion_heuristic.proofs.Written.{rank-rises}
 

@@ -1,10 +1,10 @@
 -- Standings after a proposal: which pairs are held, and which ones their residents have come to.
 use Rattle.std.proofs.Common.{◌≡◌, ℕ, ◌<◌, ◌≤◌, Bool, true, false, not, ◌&&◌, ◌||◌, ◌==◌, nat_lt, nat_le, cond, List, length, find, set, Option, Some, None, is_some, refl, sym, ap, ◌∙◌, ◌⊎◌, inl, inr, subst, arith}
-use Rattle.std.proofs.lemmas.Bool.{true≢false, eqb-true, eq-eqb, ne_eqb, and_from, and_parts, or_cases, or_parts, or_left, or_right, le-leb, leb-true, lt-ltb, ltb-true, ltb-false, cases_lt, cases_eq, cases_Bool}
+use Rattle.std.proofs.lemmas.Bool.{true≢false, eqb-true, eq-eqb, ne_eqb, and_from, and_parts, or_cases, or_left, or_right, le-leb, leb-true, lt-ltb, ltb-true, cases_lt, cases_eq, cases_Bool}
 use Rattle.std.proofs.lemmas.List.{length-set, get_or-set_same, get_or-set_other}
 use Rattle.rank_tables.specs.Numbers.{numbers_to, is_in}
 use Rattle.rank_tables.specs.Instance.{Lists, pair_count, pair_at}
-use Rattle.rank_tables.specs.Tables.{IsPairNo, IsOfResident}
+use Rattle.rank_tables.specs.Tables.{IsPairNo}
 use Rattle.rank_tables.proofs.Numbers.{is_in-numbers_to, eqb_sym}
 use Rattle.rank_tables.proofs.Below.{find-filter}
 use Rattle.promotion_heuristic.specs.declared.standing.Standing.{Standing}
@@ -77,7 +77,7 @@ pub length-turned_away : (lists : Lists) (s : List Standing) (p : ℕ) → lengt
 length-turned_away lists s p = length-set s _ _
 
 pub after-unassigned : (lists : Lists) (r : ℕ) (b : Bool) (p : ℕ) → (after lists r b p).assigned ≡ false
-after-unassigned lists r b p = elim (cases_Bool (b || is_some (next_after lists r p))) [ | inl e ↦ rw e refl | inr e ↦ rw e refl ]
+after-unassigned lists r b p = elim (cases_Bool (b || is_some (next_after lists r p))) [ inl e ↦ rw e refl | inr e ↦ rw e refl ]
 
 -- the same standing holds the same pairs
 abbrev pub holds_by : Standing → ℕ → Bool
@@ -106,9 +106,9 @@ holds-taken lists s p l free q = elim (cases_eq (pair_at lists q).resident (pair
       holds-other lists s _ _ q apart ∙ or_none (holds lists s q) (q == p) (ne_eqb q p (λ e. apart (ap (λ z. (pair_at lists z).resident) e)))
 ]
   where
-  or_none : (a b : Bool) → b ≡ false → a ≡ (a || b)
-  or_none true b e = refl
-  or_none false b e = sym e
+    or_none : (a b : Bool) → b ≡ false → a ≡ (a || b)
+    or_none true b e = refl
+    or_none false b e = sym e
 
 -- and one that is turned away holds nothing
 pub holds-turned_away : (lists : Lists) (s : List Standing) (p : ℕ) → (pair_at lists p).resident < length s → (q : ℕ) →
@@ -118,12 +118,13 @@ holds-turned_away lists s p l q = elim (cases_eq (pair_at lists q).resident (pai
   | inr apart ↦ holds-other lists s _ _ q apart ∙ sym (and_yes (holds lists s q) _ (ne_eqb _ _ apart))
 ]
   where
-  and_no : (a b : Bool) → b ≡ true → (a && not b) ≡ false
-  and_no true b e = rw e refl
-  and_no false b e = refl
-  and_yes : (a b : Bool) → b ≡ false → (a && not b) ≡ a
-  and_yes true b e = rw e refl
-  and_yes false b e = refl
+    and_no : (a b : Bool) → b ≡ true → (a && not b) ≡ false
+    and_no true b e = rw e refl
+    and_no false b e = refl
+
+    and_yes : (a b : Bool) → b ≡ false → (a && not b) ≡ a
+    and_yes true b e = rw e refl
+    and_yes false b e = refl
 
 -- ---- the pairs that a resident has come to
 
@@ -148,12 +149,12 @@ came_by-after : (lists : Lists) (s : List Standing) (p q : ℕ) (o : Option ℕ)
 came_by-after lists s p q o true h n same e f c = inl (or_left _ _ (ap (λ r. (standing_of s r).promoted) same ∙ f))
 came_by-after lists s p q (Some x) false h n same e f c = at_or_before lists s p q h n same (leb-true q p c)
   where
-  at_or_before : (lists : Lists) (s : List Standing) (p q : ℕ) → Reaches lists s p → IsPairNo lists q →
-      (pair_at lists q).resident ≡ (pair_at lists p).resident → q ≤ p → (came_to lists s q ≡ true) ⊎ (q ≡ p)
-  at_or_before lists s p q h n same l = elim (cases_lt q p) [
-    | inl less ↦ inl (h.passed_none q n same less)
-    | inr more ↦ inr (omega arith)
-  ]
+    at_or_before : (lists : Lists) (s : List Standing) (p q : ℕ) → Reaches lists s p → IsPairNo lists q →
+        (pair_at lists q).resident ≡ (pair_at lists p).resident → q ≤ p → (came_to lists s q ≡ true) ⊎ (q ≡ p)
+    at_or_before lists s p q h n same l = elim (cases_lt q p) [
+      | inl less ↦ inl (h.passed_none q n same less)
+      | inr more ↦ inr (omega arith)
+    ]
 came_by-after lists s p q None false h n same e f c = elim (cases_lt q p) [
   | inl less ↦ inl (h.passed_none q n same less)
   | inr more ↦ inr (let few : q ≤ p = none_next lists _ p e q n same in omega arith)
@@ -198,8 +199,8 @@ next-reached lists s p l h = record {
   forward = omega (arith, h.later);
   passed_none = λ q n same less. or_right (standing_of s (pair_at lists q).resident).promoted _
       (le-leb q _ (subst (λ (r : ℕ). q ≤ (standing_of s r).last) (sym same) (elim (cases_lt (standing_of s (pair_at lists p).resident).last q) [
-      | inl behind ↦ absurd (let b : p ≤ q = h.least q n same behind in omega arith)
-      | inr few ↦ few
+        | inl behind ↦ absurd (let b : p ≤ q = h.least q n same behind in omega arith)
+        | inr few ↦ few
       ])));
 }
 

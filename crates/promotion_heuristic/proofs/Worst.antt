@@ -1,5 +1,5 @@
 -- The worst pair of a hospital.
-use Rattle.std.proofs.Common.{◌≡◌, ℕ, ◌<◌, ◌≤◌, Bool, true, false, not, ◌&&◌, ◌||◌, ◌==◌, nat_lt, List, [], ◌∷◌, find, filter, Option, Some, None, refl, sym, ap, ◌∙◌, ◌⊎◌, inl, inr, subst, arith}
+use Rattle.std.proofs.Common.{◌≡◌, ℕ, ◌≤◌, Bool, true, false, not, ◌&&◌, ◌||◌, ◌==◌, nat_lt, List, [], ◌∷◌, find, Some, None, refl, sym, ap, ◌∙◌, inl, inr, subst, arith}
 use Rattle.std.specs.List.{list_all}
 use Rattle.std.proofs.lemmas.Bool.{true≢false, eqb-true, eq-eqb, and_from, and_parts, or_cases, or_parts, or_left, or_right, not-true, not_from_false, ltb-false, cases_Bool, false_from_ne_true}
 use Rattle.std.proofs.lemmas.Bool.Decides.{nat_tests}
@@ -97,21 +97,33 @@ not_lower-rank lists s p q h = ltb-false (rank_by_hospital lists q) (rank_by_hos
 
 -- in a list of which some one stands, one is worst
 undominated : (lists : Lists) (s : List Standing) (x : ℕ) (xs : List ℕ) → (w : ℕ) × (is_in w (x ∷ xs) ≡ true) × ((q : ℕ) → is_in q (x ∷ xs) ≡ true → is_worse lists s q w ≡ false)
-undominated lists s x [] = (x, or_left _ _ (eq-eqb x x refl), λ q i. elim (or_cases _ _ i) [
-  | inl e ↦ subst (λ (z : ℕ). is_worse lists s z x ≡ false) (eqb-true x q e) (is_worse-itself lists s x)
-  | inr none ↦ absurd (true≢false (sym none))
-])
+undominated lists s x [] = (
+  x,
+  or_left _ _ (eq-eqb x x refl),
+  λ q i. elim (or_cases _ _ i) [
+    | inl e ↦ subst (λ (z : ℕ). is_worse lists s z x ≡ false) (eqb-true x q e) (is_worse-itself lists s x)
+    | inr none ↦ absurd (true≢false (sym none))
+  ],
+)
 undominated lists s x (y ∷ ys) =
     let rest : (w : ℕ) × (is_in w (y ∷ ys) ≡ true) × ((q : ℕ) → is_in q (y ∷ ys) ≡ true → is_worse lists s q w ≡ false) = undominated lists s y ys in
     elim (cases_Bool (is_worse lists s x rest.0)) [
-      | inl e ↦ (x, or_left _ _ (eq-eqb x x refl), λ q i. elim (or_cases _ _ i) [
-        | inl same ↦ subst (λ (z : ℕ). is_worse lists s z x ≡ false) (eqb-true x q same) (is_worse-itself lists s x)
-        | inr later ↦ false_from_ne_true _ (λ w. true≢false (sym (is_worse-joins lists s q x rest.0 w e) ∙ rest.2 q later))
-      ])
-      | inr e ↦ (rest.0, or_right _ _ rest.1, λ q i. elim (or_cases _ _ i) [
-        | inl same ↦ subst (λ (z : ℕ). is_worse lists s z rest.0 ≡ false) (eqb-true x q same) e
-        | inr later ↦ rest.2 q later
-      ])
+      | inl e ↦ (
+        x,
+        or_left _ _ (eq-eqb x x refl),
+        λ q i. elim (or_cases _ _ i) [
+          | inl same ↦ subst (λ (z : ℕ). is_worse lists s z x ≡ false) (eqb-true x q same) (is_worse-itself lists s x)
+          | inr later ↦ false_from_ne_true _ (λ w. true≢false (sym (is_worse-joins lists s q x rest.0 w e) ∙ rest.2 q later))
+        ],
+      )
+      | inr e ↦ (
+        rest.0,
+        or_right _ _ rest.1,
+        λ q i. elim (or_cases _ _ i) [
+          | inl same ↦ subst (λ (z : ℕ). is_worse lists s z rest.0 ≡ false) (eqb-true x q same) e
+          | inr later ↦ rest.2 q later
+        ],
+      )
     ]
 
 -- the test by which the worst one is found

@@ -1,14 +1,14 @@
 -- The pairs of a resident are numbered in the order of its list, so that ranks do not fall.
-use Rattle.std.proofs.Common.{◌≡◌, ℕ, zero, suc, ◌+◌, ◌-◌, ◌<◌, ◌≤◌, Bool, true, false, cond, List, [], ◌∷◌, ◌++◌, length, map, filter, get_or, refl, sym, ap, ◌∙◌, inl, inr, subst, arith}
+use Rattle.std.proofs.Common.{◌≡◌, ℕ, zero, suc, ◌+◌, ◌-◌, ◌<◌, ◌≤◌, Bool, true, List, [], ◌∷◌, ◌++◌, length, map, filter, get_or, refl, sym, ap, ◌∙◌, inl, inr, subst, arith}
 use Rattle.std.specs.List.{concat, flat_map, All}
 use Rattle.std.proofs.lemmas.Bool.{cases_Bool}
 use Rattle.std.proofs.lemmas.List.{append-nil}
-use Rattle.std.proofs.lemmas.List.Elements.{All-nil, All-cons, All-head, All-tail, All-append, All-map, All-filter, All-weaker, All-get_or}
+use Rattle.std.proofs.lemmas.List.Elements.{All-nil, All-cons, All-head, All-tail, All-append, All-map, All-filter, All-weaker}
 use Rattle.std.proofs.lemmas.List.Concat.{flat_map-append}
 use Rattle.rank_tables.specs.declared.marks.Mark.{Mark}
 use Rattle.rank_tables.specs.Numbers.{below, is_distinct}
-use Rattle.rank_tables.specs.Instance.{Lists, Pair, no_pair, groups_of_resident, hospital_names, pairs_from, pairs, pair_count, pair_at, rank_by_resident}
-use Rattle.rank_tables.specs.Building.{mark_of, rank_or_0, with_ranks}
+use Rattle.rank_tables.specs.Instance.{Lists, Pair, no_pair, groups_of_resident, hospital_names, pairs_from, pairs, pair_at, rank_by_resident}
+use Rattle.rank_tables.specs.Building.{mark_of, rank_or_0}
 use Rattle.rank_tables.specs.Tables.{IsPairNo}
 use Rattle.rank_tables.specs.WellFormed.{IsWellFormed}
 use Rattle.rank_tables.proofs.PairFacts.{pair_at-place}
@@ -69,10 +69,10 @@ order-unmap : {A B : Type 0} (R : B → B → Type 0) (f : A → B) (xs : List A
 order-unmap R f [] h = tt
 order-unmap R f (x ∷ xs) h = (all-unmap (R (f x)) f xs h.0, order-unmap R f xs h.1)
   where
-  all-unmap : {A B : Type 0} (P : B → Type 0) (f : A → B) (xs : List A) → All P (map f xs) → All (λ x. P (f x)) xs
-  all-unmap P f [] h = All-nil (λ x. P (f x))
-  all-unmap P f (x ∷ xs) h =
-      All-cons (λ x. P (f x)) x xs (All-head P (f x) (map f xs) h) (all-unmap P f xs (All-tail P (f x) (map f xs) h))
+    all-unmap : {A B : Type 0} (P : B → Type 0) (f : A → B) (xs : List A) → All P (map f xs) → All (λ x. P (f x)) xs
+    all-unmap P f [] h = All-nil (λ x. P (f x))
+    all-unmap P f (x ∷ xs) h =
+        All-cons (λ x. P (f x)) x xs (All-head P (f x) (map f xs) h) (all-unmap P f xs (All-tail P (f x) (map f xs) h))
 
 ranks_rise : (groups : List (List ℕ)) → is_distinct (concat groups) ≡ true → IsInOrder (λ x y. rank_or_0 groups x ≤ rank_or_0 groups y) (concat groups)
 ranks_rise groups h =
@@ -94,9 +94,9 @@ from_order lists w r =
     (order-filter follows (λ h. hospital_names lists h r) (concat groups)
     (order-weaker (λ x y. rank_or_0 groups x ≤ rank_or_0 groups y) follows (λ x y h e. h) (concat groups) (ranks_rise groups (resident_ranked lists w r).distinct)))
   where
-  order-weaker : {A : Type 0} (R S : A → A → Type 0) → ((x y : A) → R x y → S x y) → (xs : List A) → IsInOrder R xs → IsInOrder S xs
-  order-weaker R S f [] h = tt
-  order-weaker R S f (x ∷ xs) h = (All-weaker (R x) (S x) (f x) xs h.0, order-weaker R S f xs h.1)
+    order-weaker : {A : Type 0} (R S : A → A → Type 0) → ((x y : A) → R x y → S x y) → (xs : List A) → IsInOrder R xs → IsInOrder S xs
+    order-weaker R S f [] h = tt
+    order-weaker R S f (x ∷ xs) h = (All-weaker (R x) (S x) (f x) xs h.0, order-weaker R S f xs h.1)
 
 of_resident : (lists : Lists) (r : ℕ) → All (λ (q : Pair). q.resident ≡ r) (pairs_from lists r)
 of_resident lists r =

@@ -1,1 +1,4 @@
+pub mod Heaps
 pub mod Promotion
+pub mod Queues
+pub mod Rounds

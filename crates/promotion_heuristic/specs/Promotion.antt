@@ -1,5 +1,5 @@
 -- Deferred acceptance with one promotion: the steps, and the matching with which they end.
-use Rattle.std.specs.Prelude.{ℕ, zero, suc, ◌*◌, Bool, true, false, not, ◌&&◌, ◌||◌, ◌==◌, nat_lt, if◌then◌else◌, List, length, map, filter, slice_index_or, slice_set, Option, Some, None, is_some, option_map, unwrap_or}
+use Rattle.std.specs.Prelude.{ℕ, zero, suc, ◌*◌, Bool, true, false, not, ◌&&◌, ◌||◌, ◌==◌, nat_lt, if◌then◌else◌, List, length, replicate, filter, slice_index_or, slice_set, Option, Some, None, is_some, option_map, unwrap_or}
 use Rattle.std.specs.List.{find, list_all}
 use Rattle.std.specs.Option.{option_and_then}
 use Rattle.rank_tables.specs.Numbers.{below, numbers_to}
@@ -13,7 +13,7 @@ at_top = record { last = 0; promoted = false; assigned = false }
 
 -- the standings of all residents in order, at the start
 abbrev pub start : Lists → List Standing
-start lists = map (λ resident. at_top) lists.residents
+start lists = replicate (length lists.residents) at_top
 
 abbrev pub standing_of : List Standing → ℕ → Standing
 standing_of standings r = slice_index_or standings r at_top
@@ -82,22 +82,24 @@ abbrev pub turned_away : Lists → List Standing → ℕ → List Standing
 turned_away lists standings p =
     slice_set standings (pair_at lists p).resident (after lists (pair_at lists p).resident (is_promoted lists standings p) p)
 
--- a full hospital takes the proposer in place of its worst resident, if that is lower
-abbrev pub compared : Lists → List Standing → ℕ → Option ℕ → List Standing
-compared lists standings p None = turned_away lists standings p
-compared lists standings p (Some w) =
-    if is_lower lists standings w p then taken lists (turned_away lists standings w) p else turned_away lists standings p
-
 -- whether a hospital has a free post
 abbrev pub has_room : Lists → List Standing → ℕ → Bool
 has_room lists standings h = nat_lt (uses_of_hospital lists (held lists standings) h) (capacity_of lists h)
+
+-- the pair that makes place for p at a full hospital: its worst one, if that is lower
+abbrev pub displaced : Lists → List Standing → ℕ → Option ℕ
+displaced lists standings p = option_and_then (λ w. if is_lower lists standings w p then Some w else None) (worst lists standings (pair_at lists p).hospital)
+
+abbrev pub compared : Lists → List Standing → ℕ → Option ℕ → List Standing
+compared lists standings p None = turned_away lists standings p
+compared lists standings p (Some w) = taken lists (turned_away lists standings w) p
 
 -- the standings after a proposal. A hospital without posts has no worst resident, and refuses.
 abbrev pub proposed : Lists → List Standing → ℕ → List Standing
 proposed lists standings p =
     if has_room lists standings (pair_at lists p).hospital
     then taken lists standings p
-    else compared lists standings p (worst lists standings (pair_at lists p).hospital)
+    else compared lists standings p (displaced lists standings p)
 
 abbrev pub step : Lists → List Standing → Option (List Standing)
 step lists standings = option_map (proposed lists standings) (proposal lists standings)

@@ -2,4 +2,11 @@
 //! of equals that had no need of one. After Király.
 #![tactic(auto)]
 
+mod first;
+mod queues;
+mod rounds;
 mod standing;
+mod tenant;
+mod turning;
+
+pub use first::promote;

@@ -1,0 +1,4 @@
+pub mod Heaps
+pub mod Promotion
+pub mod Queues
+pub mod Rounds

@@ -1,0 +1,127 @@
+-- What follows from rows, one step at a time.
+use Rattle.std.proofs.Common.{◌≡◌, ◌∙◌, ◌≤◌, ◌<◌, ◌+◌, ℕ, suc, zero, Bool, true, false, if◌then◌else◌, List, [], ◌∷◌, ◌++◌, length, take, get_or, refl, sym, ap, subst, arith, inl, inr, append_assoc, append-nil}
+use Rattle.std.specs.List.{All, Contains}
+use Rattle.std.proofs.lemmas.Bool.{cases_Bool, false_from_ne_true, or_left}
+use Rattle.std.proofs.lemmas.List.{get_or_default}
+use Rattle.std.proofs.lemmas.List.Folds.{list_any-append}
+use Rattle.std.proofs.lemmas.List.Elements.{All-contains, All-more, All-weaker}
+use Rattle.hrt_base.specs.declared.literal.Lit.{Lit}
+use Rattle.hrt_base.specs.declared.literal.Term.{Term}
+use Rattle.pb_rows.specs.Terms.{PlainRow, opposite_lit, weight}
+use Rattle.pb_rows.specs.Closure.{Keeps, Literals, Refuted, nonfalse_share, nonfalse_sum}
+use Rattle.rup_engine.specs.Literals.{among, is_same_lit}
+use Rattle.rup_engine.specs.Propagation.{AddsFollowing, Follows, Grows, IsOpen, IsSettledAt, TakesTerm}
+use Rattle.rup_engine.proofs.Sets.{among-cases, among-new}
+
+-- s is part of t
+abbrev pub Within : Literals → Literals → Type 0
+Within s t = (l : Lit) → s l ≡ true → t l ≡ true
+
+share_anti : (b c : Bool) (n : ℕ) → (b ≡ true → c ≡ true) → (if c then 0 else n) ≤ (if b then 0 else n)
+share_anti true true n h = omega arith
+share_anti true false n h = absurd (let e : false ≡ true = h refl in cc)
+share_anti false true n h = omega arith
+share_anti false false n h = omega arith
+
+module _ (s t : Literals) (within : Within s t) where
+  -- a greater set makes more literals false
+  pub nonfalse_sum-anti : (ts : List Term) → nonfalse_sum t ts ≤ nonfalse_sum s ts
+  nonfalse_sum-anti [] = omega arith
+  nonfalse_sum-anti (x ∷ ts) = omega (arith, share_anti (s (opposite_lit x.lit)) (t (opposite_lit x.lit)) (weight x.coef) (within (opposite_lit x.lit)), nonfalse_sum-anti ts)
+
+  -- where it makes a term's literal false that the smaller one leaves, the sum falls by the coefficient
+  nonfalse_sum-less : (ts : List Term) (k : ℕ) (x : Term) → k < length ts → get_or ts k x ≡ x → s (opposite_lit x.lit) ≡ false → t (opposite_lit x.lit) ≡ true
+      → nonfalse_sum t ts + weight x.coef ≤ nonfalse_sum s ts
+  nonfalse_sum-less [] k x h at a b = absurd (omega arith)
+  nonfalse_sum-less (y ∷ ts) zero x h at a b =
+      let same : y ≡ x = at in
+      let low : nonfalse_share t x ≡ 0 = rw b refl in
+      let high : nonfalse_share s x ≡ weight x.coef = rw a refl in
+      rw same (omega (arith, low, high, nonfalse_sum-anti ts))
+  nonfalse_sum-less (y ∷ ts) (suc k) x h at a b =
+      omega (arith, share_anti (s (opposite_lit y.lit)) (t (opposite_lit y.lit)) (weight y.coef) (within (opposite_lit y.lit)), nonfalse_sum-less ts k x (omega arith) at a b)
+
+  -- what a row propagates is in each greater set that keeps the row
+  pub open_within : (r : PlainRow) (sum : ℕ) (x : Term) → Keeps t r → Contains r.terms x → nonfalse_sum s r.terms ≤ sum → IsOpen s sum r.degree x → t x.lit ≡ true
+  open_within r sum x kept c below o = elim (cases_Bool (t (opposite_lit x.lit))) [
+    | inl e ↦ absurd (omega (arith, o.exceeds, kept.unfalsified, nonfalse_sum-less r.terms c.0 x c.1 c.2 o.unfalse e))
+    | inr e ↦ All-contains (λ (y : Term). t (opposite_lit y.lit) ≡ false → nonfalse_sum t r.terms < r.degree + weight y.coef → t y.lit ≡ true) r.terms x kept.settled c e
+        (omega (arith, o.exceeds, nonfalse_sum-anti r.terms))
+  ]
+
+-- ---- one step
+
+pub follows-falsified : (rows : List PlainRow) (given s : Literals) (r : PlainRow) (sum : ℕ) → Contains rows r → nonfalse_sum s r.terms ≤ sum → sum < r.degree
+    → Follows rows given s → Refuted rows given
+follows-falsified rows given s r sum c below less f t q =
+    let kept : Keeps t r = All-contains (Keeps t) rows r q.kept c in
+    absurd (omega (arith, kept.unfalsified, nonfalse_sum-anti s t (f.holds t q) r.terms))
+
+pub follows-open : (rows : List PlainRow) (given : Literals) (ls : List Lit) (r : PlainRow) (sum : ℕ) (x : Term) → Contains rows r → Contains r.terms x
+    → nonfalse_sum (among ls) r.terms ≤ sum → IsOpen (among ls) sum r.degree x → Follows rows given (among ls) → Follows rows given (among (ls ++ x.lit ∷ []))
+follows-open rows given ls r sum x c d below o f = record {
+  holds = λ t q l h. elim (among-cases ls x.lit l h) [
+    | inl old ↦ f.holds t q l old
+    | inr new ↦ subst (λ (a : Lit). t a ≡ true) (sym new) (open_within (among ls) t (f.holds t q) r sum x (All-contains (Keeps t) rows r q.kept c) d below o)
+  ];
+}
+
+-- ---- growing
+
+pub grows-none : (ls : List Lit) → Grows ls ls
+grows-none ls = record { more = []; is = sym (append-nil ls) }
+
+pub grows-more : (a b c : List Lit) → Grows a b → Grows b c → Grows a c
+grows-more a b c f g = record { more = f.more ++ g.more; is = g.is ∙ ap (λ x. x ++ g.more) f.is ∙ append_assoc a f.more g.more }
+
+pub grows-one : (ls : List Lit) (l : Lit) → Grows ls (ls ++ l ∷ [])
+grows-one ls l = record { more = l ∷ []; is = refl }
+
+pub grows-within : (a b : List Lit) → Grows a b → Within (among a) (among b)
+grows-within a b g l h = ap (λ x. among x l) g.is ∙ kept a g.more l h
+  where
+    kept : (a m : List Lit) (l : Lit) → among a l ≡ true → among (a ++ m) l ≡ true
+    kept a m l h = list_any-append (is_same_lit l) a m ∙ or_left _ _ h
+
+pub settled-more : (s t : Literals) → Within s t → (sum degree : ℕ) (x : Term) → IsSettledAt s sum degree x → IsSettledAt t sum degree x
+settled-more s t w sum degree x h unfalse exceeds = w x.lit (h (false_from_ne_true (s (opposite_lit x.lit)) (λ e. let f = w (opposite_lit x.lit) e in cc)) exceeds)
+
+-- ---- the terms of a row, one after another
+
+-- what the first i terms have made of a trail
+pub record AreTaken (terms : List Term) (sum degree i : ℕ) (old new : List Lit) : Type 0 where
+  pub grows : Grows old new
+  pub settled : All (IsSettledAt (among new) sum degree) (take i terms)
+  pub sound : AddsFollowing (record { terms = terms; degree = degree }) sum old new false
+
+pub none-taken : (terms : List Term) (sum degree : ℕ) (ls : List Lit) → AreTaken terms sum degree 0 ls ls
+none-taken terms sum degree ls = record {
+  grows = grows-none ls;
+  settled = λ k d h. absurd (omega arith);
+  sound = record { follows = λ rows given c below f. f };
+}
+
+pub one-taken : (terms : List Term) (sum degree i : ℕ) (d : Term) (old mid new : List Lit) → i < length terms → AreTaken terms sum degree i old mid
+    → TakesTerm sum degree (get_or terms i d) mid new → AreTaken terms sum degree (i + 1) old new
+one-taken terms sum degree i d old mid new h a s =
+    let x : Term = get_or terms i d in
+    elim s [
+      | inl opened ↦
+          let grows : Grows mid new = record { more = x.lit ∷ []; is = opened.1 } in
+          let within = grows-within mid new grows in
+          record {
+            grows = grows-more old mid new a.grows grows;
+            settled = All-more (IsSettledAt (among new) sum degree) terms i d h
+                (All-weaker (IsSettledAt (among mid) sum degree) (IsSettledAt (among new) sum degree) (settled-more (among mid) (among new) within sum degree) (take i terms) a.settled)
+                (λ unfalse exceeds. ap (λ ls. among ls x.lit) opened.1 ∙ among-new mid x.lit);
+            sound = record {
+              follows = λ rows given c below f.
+                  subst (λ (ls : List Lit). Follows rows given (among ls)) (sym opened.1)
+                  (follows-open rows given mid (record { terms = terms; degree = degree }) sum x c (i, h, get_or_default terms i x d h)
+                  (omega (arith, below, nonfalse_sum-anti (among old) (among mid) (grows-within old mid a.grows) terms)) opened.0 (a.sound.follows rows given c below f));
+            };
+          }
+      | inr settled ↦
+          subst (λ (ls : List Lit). AreTaken terms sum degree (i + 1) old ls) (sym settled.0)
+          (record { grows = a.grows; settled = All-more (IsSettledAt (among mid) sum degree) terms i d h a.settled settled.1; sound = a.sound })
+    ]

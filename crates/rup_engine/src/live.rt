@@ -1,0 +1,127 @@
+// The live rows.
+ghost use Rattle.std.specs.Prelude.{◌≡◌, ◌↔◌, [], ◌∷◌, ◌++◌, IsTrue, IsFalse, IsSome, IfOk, IfSome, OnOk, OnErr};
+ghost use Rattle.std.specs.List.{All, IsDistinct};
+ghost use Rattle.std.specs.Option.{option_copied};
+ghost use Rattle.pb_rows.specs.Points.{IsCovered};
+ghost use Rattle.pb_rows.specs.Closure.{Implies, IsClosure, Refuted};
+ghost use Rattle.pb_rows.specs.Formula.{is_numbered, row_of, rows_of};
+ghost use Rattle.rup_engine.specs.Literals.{among, is_same_lit};
+ghost use Rattle.rup_engine.specs.Live.{AreLive, IsOver, named, without};
+
+use crate::closing::{close, contradicts};
+use crate::opposite::Opposite;
+use crate::slots::{Slot, drop_number, is_live, row_of};
+use crate::trail::Trail;
+use hrt_base::{Lit, NoMemory, RowNo};
+use pb_rows::Row;
+use std::alloc::Global;
+use std::marker::Model;
+
+/// The rows that an answer rests on, in the order of their use. A number may stand several times.
+#[derive(Drop)]
+pub struct Used {
+    pub rows: Vec<RowNo>,
+}
+
+/// The live rows by their numbers. It is seen as the number of variables and the numbered rows, oldest first.
+#[derive(Drop)]
+pub struct Live {
+    slots: Vec<Slot>,
+    trail: Trail,
+}
+
+impl Model for Live {
+    ghost use Rattle.std.specs.Prelude.{◌≡◌, []};
+    ghost use Rattle.rup_engine.specs.Live.{LiveRows};
+
+    ghost Value = { LiveRows };
+
+    ghost use Rattle.rup_engine.specs.Slots.{AreSlots, entries_of};
+
+    ghost view = { λ l. record { vars = l.trail.vars; rows = entries_of l.slots.items } };
+
+    ghost invariant = { λ l. AreSlots l.trail.vars l.slots.items × (l.trail.literals ≡ []) };
+}
+
+impl Live {
+    /// No rows, over the variables 1 to `vars`.
+    pub fn new(alloc: Global, vars: u32) -> Result<Live, NoMemory>
+        ensures { IfOk result (λ l. l ≡ record { vars = vars; rows = [] }) }
+    {
+        Ok(Live {
+            slots: Vec::new(alloc),
+            trail: Trail::new(alloc, vars)?,
+        })
+    }
+
+    /// Adds a row under a number that no live row has.
+    pub fn add(&mut self, _alloc: Global, id: RowNo, row: Row) -> Result<(), NoMemory>
+        requires fresh { IsFalse (is_numbered id.0 self.old.rows) }
+        requires covered { IsOver self.old.vars row }
+        ensures ok { OnOk result (self.new ≡ record self.old { rows = self.old.rows ++ record { number = id.0; row = row } ∷ [] }) }
+        ensures err { OnErr result (self.new ≡ self.old) }
+    {
+        self.slots.push(Slot { number: id, row })?;
+        Ok(())
+    }
+
+    /// The row of a number, or none where it isn't live.
+    pub fn get(&self, id: RowNo) -> Option<&Row>
+        ensures { option_copied result ≡ row_of id.0 self.now.rows }
+    {
+        row_of(&self.slots, id)
+    }
+
+    /// Removes the row of a number, and tells whether there was one.
+    pub fn remove(&mut self, _alloc: Global, id: RowNo) -> Result<bool, NoMemory>
+        ensures ok { IfOk result (λ removed. removed ≡ is_numbered id.0 self.old.rows) }
+        ensures rows { OnOk result (self.new ≡ record self.old { rows = without id.0 self.old.rows }) }
+        ensures err { OnErr result (self.new ≡ self.old) }
+    {
+        if !is_live(&self.slots, id) {
+            return Ok(false);
+        }
+        drop_number(&mut self.slots, id);
+        Ok(true)
+    }
+
+    /// Tells whether the rows and the given literals are refuted. Where they aren't, `out` is their closure, each literal once
+    /// and in no order of note, and what it held before is gone. Else `out` stays.
+    pub fn closure(
+        &mut self,
+        alloc: Global,
+        given: &[Lit],
+        out: &mut Vec<Lit>,
+    ) -> Result<bool, NoMemory>
+        requires { All (λ l. IsCovered self.old.vars l.var) given.now }
+        ensures refuted { IfOk result (λ refuted. IsTrue refuted ↔ Refuted (rows_of self.old.rows) (among given.now)) }
+        ensures closed { IfOk result (λ refuted. IsFalse refuted → IsClosure (rows_of self.old.rows) (among given.now) (among out.new.items)) }
+        ensures once { IfOk result (λ refuted. IsFalse refuted → IsDistinct is_same_lit out.new.items) }
+        ensures unwritten { IfOk result (λ refuted. IsTrue refuted → out.new.items ≡ out.old.items) }
+        ensures err { OnErr result (out.new.items ≡ out.old.items) }
+        ensures live { self.new ≡ self.old }
+    {
+        let answer = close(alloc, &self.slots, &mut self.trail, given, out);
+        self.trail.clear();
+        answer
+    }
+
+    /// Tells whether a row follows by propagation: whether the live rows and the row's opposite are refuted. Where they are,
+    /// the rows that are named, with the opposite, are refuted too.
+    pub fn refutes(&mut self, alloc: Global, row: &Row) -> Result<Option<Used>, NoMemory>
+        requires { IsOver self.old.vars row.now }
+        ensures implied { IfOk result (λ used. IsSome used ↔ Implies (rows_of self.old.rows) row.now) }
+        ensures used { IfOk result (λ used. IfSome used (λ u. Implies (named self.old.rows u.rows.items) row.now)) }
+        ensures numbers { IfOk result (λ used. IfSome used (λ u. AreLive self.old.rows u.rows.items)) }
+        ensures live { self.new ≡ self.old }
+    {
+        let opposite = Opposite::of(alloc, row)?;
+        let mut rows = Vec::new(alloc);
+        let answer = contradicts(&self.slots, &opposite, &mut self.trail, &mut rows);
+        self.trail.clear();
+        if answer? {
+            return Ok(Some(Used { rows }));
+        }
+        Ok(None)
+    }
+}

@@ -3,7 +3,7 @@ use Rattle.std.specs.Prelude.{◌≡◌, ℕ, false, Option, Some}
 use Rattle.hrt_text.specs.Grammar.{Form}
 use Rattle.hrt_reader.specs.declared.refusals.ReadRefusal.{ReadRefusal}
 use Rattle.hrt_reader.specs.declared.refusals.ReadRefusal.TheVariants.{Bad, Limit, NoMemory}
-use Rattle.hrt_reader.specs.declared.refusals.LimitKind.TheVariants.{Residents, Hospitals, Pairs}
+use Rattle.hrt_reader.specs.declared.refusals.LimitKind.TheVariants.{Residents, Hospitals, Pairs, Terms}
 use Rattle.hrt_reader.specs.Kinds.{number}
 use Rattle.hrt_reader.specs.Refusal.{Refusal, bad_name, bad_capacity, bad_tie}
 
@@ -13,6 +13,7 @@ IsRefusedBy refusal (Bad kind line) = refusal ≡ Some (record { line = line; ki
 IsRefusedBy refusal (Limit Residents) = (line : ℕ) × (refusal ≡ Some (record { line = line; kind = 11 }))
 IsRefusedBy refusal (Limit Hospitals) = (line : ℕ) × (refusal ≡ Some (record { line = line; kind = 12 }))
 IsRefusedBy refusal (Limit Pairs) = ⊥
+IsRefusedBy refusal (Limit Terms) = ⊥
 IsRefusedBy refusal NoMemory = Unit {0}
 
 -- a line of this form has no kind that is its own alone, but for a name twice

@@ -2,7 +2,8 @@
 
 ghost use Rattle.std.specs.Prelude.{◌≡◌, ◌<◌, ◌≤◌, ◌==◌, ◌^◌, None, Some, count_by, length, IfOk, IfErr};
 ghost use Rattle.rank_tables.specs.Instance.{pair_count};
-ghost use Rattle.rank_tables.specs.WellFormed.{most_pairs};
+ghost use Rattle.rank_tables.specs.Terms.{model_terms};
+ghost use Rattle.rank_tables.specs.WellFormed.{most_pairs, most_terms};
 ghost use Rattle.hrt_reader.specs.Answer.{IsRefused};
 ghost use Rattle.hrt_reader.specs.Refusal.{Refusal, lists_of_rows};
 ghost use Rattle.hrt_text.specs.Text.{rows};
@@ -66,14 +67,17 @@ pub fn read_instance(alloc: Global, bytes: &[u8]) -> Result<Instance, ReadRefusa
     requires { count_by (λ b. b == 10) bytes.now ≤ 4294967294 }
     ensures spells { IfOk result (λ instance. Spells bytes.now instance) }
     ensures few { IfOk result (λ instance. pair_count instance ≤ most_pairs) }
+    ensures few_terms { IfOk result (λ instance. model_terms instance ≤ most_terms) }
     ensures refused { IfErr result (IsRefused bytes.now) }
-    ensures accepts { refusal (rows bytes.now) ≡ None → pair_count (lists_of_rows (rows bytes.now)) ≤ most_pairs → IfErr result (λ e. e ≡ ReadRefusal.NoMemory) }
+    ensures accepts { refusal (rows bytes.now) ≡ None → pair_count (lists_of_rows (rows bytes.now)) ≤ most_pairs
+        → model_terms (lists_of_rows (rows bytes.now)) ≤ most_terms → IfErr result (λ e. e ≡ ReadRefusal.NoMemory) }
     ensures refuses { (r : Refusal) → refusal (rows bytes.now) ≡ Some r → IfOk result (λ instance. ⊥) }
 {
     let draft = read_lists(alloc, bytes)?;
     match Instance::build(alloc, draft) {
         Ok(instance) => Ok(instance),
         Err(BuildRefusal::TooManyPairs) => Err(ReadRefusal::Limit(LimitKind::Pairs)),
+        Err(BuildRefusal::TooManyTerms) => Err(ReadRefusal::Limit(LimitKind::Terms)),
         Err(BuildRefusal::NoMemory) => Err(ReadRefusal::NoMemory),
     }
 }

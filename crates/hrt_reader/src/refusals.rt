@@ -30,6 +30,7 @@ pub enum LimitKind {
     Residents,
     Hospitals,
     Pairs,
+    Terms,
 }
 
 /// Why no instance was read. Lines are counted from 1, blank ones too.

@@ -1,0 +1,6 @@
+pub mod Fronts
+mod ModelText
+mod Within
+mod Taking
+mod Passed
+mod Worked

@@ -1,5 +1,6 @@
 mod AuditedPairs
 mod Codes
+mod FewTerms
 mod Ports
 mod Runs
 mod Solving

@@ -13,7 +13,7 @@ use Rattle.hrt_cli.specs.declared.stop.Stop.{Stop}
 use Rattle.hrt_cli.specs.declared.stop.Stop.TheVariants.{Refused, Exceeded, PairsRefused, ReadFault, NoMemory}
 use Rattle.hrt_cli.specs.Inputs.{OnlyRead}
 use Rattle.hrt_cli.specs.Limits.{most}
-use Rattle.hrt_cli.specs.Verdicts.{Rejection, Verdict, refused, exceeded, pairs_refused, rejected, audited, audit_verdict, lists_in, within}
+use Rattle.hrt_cli.specs.Verdicts.{Rejection, Verdict, refused, exceeded, pairs_refused, rejected, audited, audit_verdict, lists_in, of_few_terms, within}
 
 -- the lists of a text could not be had, and this is why
 abbrev pub StopsText : Result Lists Rejection → Stop → Type 0
@@ -23,20 +23,20 @@ StopsText lists (PairsRefused kind line) = ⊥
 StopsText lists ReadFault = ⊥
 StopsText lists NoMemory = Unit {0}
 
--- the file was read to its end and spells these lists, of no more pairs than the limit
+-- the file was read to its end and spells these lists, of no more pairs than the limit and no more terms than are taken
 pub record IsLoaded (told : Type 0) (name : List ℕ) (limit : Limit) (lists : Lists) (old new : World) : Type 0 where
   pub only_read : OnlyRead told old new
   pub begun : new.begun ≡ put Instance Reading old.begun
   pub content : told → new.content ≡ with_rest Instance [] old.content
   pub few : pair_count lists ≤ most limit
-  pub spelled : told → (bytes : List ℕ) × (old.content.file name ≡ Some bytes) × (within limit (lists_in bytes) ≡ Ok lists)
+  pub spelled : told → (bytes : List ℕ) × (old.content.file name ≡ Some bytes) × (of_few_terms (within limit (lists_in bytes)) ≡ Ok lists)
 
 -- the file was read to its end, or further than its limit, and is not taken
 pub record IsRejected (told : Type 0) (name : List ℕ) (limit : Limit) (rejection : Rejection) (old new : World) : Type 0 where
   pub only_read : OnlyRead told old new
   pub begun : new.begun ≡ put Instance Reading old.begun
   pub out : told → (new.content.rest Instance ≡ []) ⊎ (rejection ≡ exceeded InstanceBytes)
-  pub due : told → (bytes : List ℕ) × (old.content.file name ≡ Some bytes) × (within limit (lists_in bytes) ≡ Err rejection)
+  pub due : told → (bytes : List ℕ) × (old.content.file name ≡ Some bytes) × (of_few_terms (within limit (lists_in bytes)) ≡ Err rejection)
 
 -- reading failed
 pub record FailedToRead (told : Type 0) (old new : World) : Type 0 where

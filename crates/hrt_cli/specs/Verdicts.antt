@@ -2,13 +2,14 @@
 use Rattle.std.specs.Prelude.{ℕ, ◌==◌, nat_lt, if◌then◌else◌, List, length, Option, Some, None, Result, Ok, Err, option_map}
 use Rattle.rank_tables.specs.Instance.{Lists, pair_count}
 use Rattle.rank_tables.specs.Stability.{is_weakly_stable}
+use Rattle.rank_tables.specs.Terms.{model_terms}
 use Rattle.hrt_text.specs.Text.{rows}
 use Rattle.hrt_reader.specs.PairsText.{pairs_of_rows, pairs_refusal}
 use Rattle.hrt_reader.specs.Refusal.{Refusal, refusal, lists_of_rows}
 use Rattle.stability_audit.specs.declared.verdict.Verdict.{Verdict as Audit}
 use Rattle.stability_audit.specs.declared.verdict.Verdict.TheVariants.{Stable, ResidentTwice, OverCapacity, Blocked}
 use Rattle.hrt_cli.specs.declared.limit.Limit.{Limit}
-use Rattle.hrt_cli.specs.declared.limit.Limit.TheVariants.{Residents, Hospitals, Pairs, TriedPairs, InstanceBytes, PairsBytes}
+use Rattle.hrt_cli.specs.declared.limit.Limit.TheVariants.{Residents, Hospitals, Pairs, TriedPairs, Terms, InstanceBytes, PairsBytes}
 use Rattle.hrt_cli.specs.declared.status.Status.{Status}
 use Rattle.hrt_cli.specs.declared.status.Status.TheVariants.{Done, Misused, InstanceRefused, LimitExceeded, AuditNo, PairsRefused}
 use Rattle.hrt_cli.specs.Limits.{most}
@@ -47,6 +48,11 @@ abbrev pub within : Limit → Result Lists Rejection → Result Lists Rejection
 within limit (Err rejection) = Err rejection
 within limit (Ok lists) = if nat_lt (most limit) (pair_count lists) then Err (exceeded limit) else Ok lists
 
+-- the lists, unless their 0/1 model has more terms than are taken
+abbrev pub of_few_terms : Result Lists Rejection → Result Lists Rejection
+of_few_terms (Err rejection) = Err rejection
+of_few_terms (Ok lists) = if nat_lt (most Terms) (model_terms lists) then Err (exceeded Terms) else Ok lists
+
 -- what is due for the lists, unless the file isn't taken
 abbrev pub due : Result Lists Rejection → (Lists → Verdict) → Verdict
 due (Err rejection) f = rejected rejection
@@ -71,7 +77,7 @@ on_lists (Ok lists) pairs = option_map (audit_verdict lists) pairs
 
 abbrev pub on_file : Option (List ℕ) → Option (List ℕ) → Option Verdict
 on_file None pairs = None
-on_file (Some bytes) pairs = on_lists (within Pairs (lists_in bytes)) pairs
+on_file (Some bytes) pairs = on_lists (of_few_terms (within Pairs (lists_in bytes))) pairs
 
 -- None where a file that is read is absent
 abbrev pub verdict_of : Option Request → Files → Option Verdict

@@ -10,6 +10,8 @@ pub enum Limit {
     Pairs,
     /// The pairs of which every set is tried.
     TriedPairs,
+    /// The terms of the 0/1 model.
+    Terms,
     InstanceBytes,
     PairsBytes,
 }
@@ -23,6 +25,7 @@ impl Limit {
             Limit::Residents => "residents",
             Limit::Hospitals => "hospitals",
             Limit::Pairs | Limit::TriedPairs => "pairs",
+            Limit::Terms => "terms",
             Limit::InstanceBytes => "instance-bytes",
             Limit::PairsBytes => "pairs-bytes",
         }
@@ -36,6 +39,7 @@ impl Limit {
             Limit::Residents | Limit::Hospitals => 20_000,
             Limit::Pairs => 100_000,
             Limit::TriedPairs => 12,
+            Limit::Terms => 8_000_000,
             Limit::InstanceBytes | Limit::PairsBytes => 67_108_864,
         }
     }

@@ -1,12 +1,13 @@
 // Instances from files.
-ghost use Rattle.std.specs.Prelude.{◌≡◌, ◌≤◌, length, All, IfOk, IfErr, IsTrue, Ok};
-ghost use Rattle.rank_tables.specs.Instance.{pair_count};
+ghost use Rattle.std.specs.Prelude.{◌≡◌, ◌≤◌, ◌<◌, length, All, IfOk, IfErr, IsTrue, Ok, Err};
+ghost use Rattle.rank_tables.specs.Instance.{Lists, pair_count};
 ghost use Rattle.rank_tables.specs.Numbers.{is_distinct};
 ghost use Rattle.rank_tables.specs.Tables.{numbers_of, IsPairNo};
-ghost use Rattle.rank_tables.specs.WellFormed.{most_pairs};
-ghost use Rattle.hrt_cli.specs.Limits.{most};
+ghost use Rattle.rank_tables.specs.Terms.{model_terms};
+ghost use Rattle.rank_tables.specs.WellFormed.{most_pairs, most_terms};
+ghost use Rattle.hrt_cli.specs.Limits.{most, IsOnPairs};
 ghost use Rattle.hrt_cli.specs.Loading.{ArePairsLoaded, IsLoaded, StopsLoading, StopsLoadingPairs, StopsPairsText, StopsText};
-ghost use Rattle.hrt_cli.specs.Verdicts.{audit_verdict, audited, lists_in, within};
+ghost use Rattle.hrt_cli.specs.Verdicts.{audit_verdict, audited, exceeded, lists_in, of_few_terms, within};
 
 use crate::input::read_file;
 use crate::{Limit, Stop};
@@ -15,7 +16,7 @@ use hrt_reader::{LimitKind, PairsRefusal, ReadRefusal, read_instance, read_pairs
 use rank_tables::Instance;
 use std::alloc::Global;
 
-/// The instance in a file, unless it has more acceptable pairs than the limit.
+/// The instance in a file, unless it has more acceptable pairs than the limit, or more terms of the 0/1 model than are taken.
 pub fn load<H: Host>(
     alloc: Global,
     host: &mut H,
@@ -24,6 +25,7 @@ pub fn load<H: Host>(
 ) -> Result<Instance, Stop>
     requires idle { (H.world host.old).begun Port.Instance ≡ Begun.Idle }
     requires few { most limit ≤ most_pairs }
+    requires on_pairs { IsOnPairs limit }
     ensures loaded { IfOk result (λ lists. IsLoaded H.told name.now limit lists (H.world host.old) (H.world host.new)) }
     ensures stopped { IfErr result (λ stop. StopsLoading H.told name.now limit stop (H.world host.old) (H.world host.new)) }
 {
@@ -45,9 +47,10 @@ pub fn load<H: Host>(
 fn instance_in(alloc: Global, bytes: &[u8], limit: Limit) -> Result<Instance, Stop>
     requires short { length bytes.now ≤ 67108864 }
     requires few { most limit ≤ most_pairs }
-    ensures lists { IfOk result (λ lists. within limit (lists_in bytes.now) ≡ Ok lists) }
+    requires on_pairs { IsOnPairs limit }
+    ensures lists { IfOk result (λ lists. of_few_terms (within limit (lists_in bytes.now)) ≡ Ok lists) }
     ensures within { IfOk result (λ lists. pair_count lists ≤ most limit) }
-    ensures stopped { IfErr result (StopsText (within limit (lists_in bytes.now))) }
+    ensures stopped { IfErr result (StopsText (of_few_terms (within limit (lists_in bytes.now)))) }
 {
     match read_instance(alloc, bytes) {
         Ok(inst) => {
@@ -61,7 +64,20 @@ fn instance_in(alloc: Global, bytes: &[u8], limit: Limit) -> Result<Instance, St
         Err(ReadRefusal::Limit(LimitKind::Residents)) => Err(Stop::Exceeded(Limit::Residents)),
         Err(ReadRefusal::Limit(LimitKind::Hospitals)) => Err(Stop::Exceeded(Limit::Hospitals)),
         Err(ReadRefusal::Limit(LimitKind::Pairs)) => Err(Stop::Exceeded(limit)),
+        Err(ReadRefusal::Limit(LimitKind::Terms)) => Err(Stop::Exceeded(exceeded_by_terms(limit))),
         Err(ReadRefusal::NoMemory) => Err(Stop::NoMemory),
+    }
+}
+
+// What there is too much of where there are too many terms. Few pairs don't have so many, so where every set of pairs is
+// tried there are too many pairs as well, and these are told first.
+fn exceeded_by_terms(limit: Limit) -> Limit
+    requires { IsOnPairs limit }
+    ensures { (lists : Lists) → pair_count lists ≤ most_pairs → most_terms < model_terms lists → of_few_terms (within limit (Ok lists)) ≡ Err (exceeded result) }
+{
+    match limit {
+        Limit::TriedPairs => limit,
+        _ => Limit::Terms,
     }
 }
 

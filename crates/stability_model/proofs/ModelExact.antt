@@ -1,24 +1,22 @@
 -- The model is exact: its rows hold together exactly where the point's pairs are weakly stable.
-use Rattle.std.proofs.Common.{◌≡◌, ℕ, zero, suc, ◌+◌, ◌-◌, ◌≤◌, ◌<◌, Bool, true, false, not, ◌&&◌, List, [], ◌∷◌, ◌++◌, ◌==◌, nat_le, nat_lt, if◌then◌else◌, filter, map, count_by, length, ℤ, pos, neg_ℤ, ◌+ℤ◌, int_le, refl, sym, ap, ap₂, ◌∙◌, arith}
-use Rattle.std.specs.Prelude.{slice_get, option_map, unwrap_or}
-use Rattle.std.specs.List.{list_all, concat}
-use Rattle.std.proofs.lemmas.Bool.{true≢false, and_from, and_parts, lt-ltb, ltb-true, le-leb, leb-true, eq-eqb}
+use Rattle.std.proofs.Common.{◌≡◌, ℕ, ◌+◌, ◌<◌, Bool, true, false, ◌&&◌, List, [], ◌∷◌, ◌++◌, ◌==◌, nat_le, if◌then◌else◌, filter, map, count_by, length, ℤ, pos, neg_ℤ, ◌+ℤ◌, int_le, refl, sym, ap, ap₂, ◌∙◌, arith}
+use Rattle.std.specs.List.{list_all}
+use Rattle.std.proofs.lemmas.Bool.{true≢false, and_from, and_parts, lt-ltb, le-leb, leb-true, eq-eqb}
 use Rattle.std.proofs.lemmas.Bool.Decides.{nat_tests}
 use Rattle.std.proofs.lemmas.Int.{ints}
 use Rattle.std.proofs.lemmas.List.Folds.{list_all-append, list_all-map}
 use Rattle.std.proofs.lemmas.List.Sums.{sum_by-cons, length-filter}
-use Rattle.hrt_base.specs.declared.literal.Term.{Term}
-use Rattle.pb_rows.specs.Terms.{PlainRow, Written}
+use Rattle.pb_rows.specs.Terms.{Written}
 use Rattle.pb_rows.specs.Points.{Point, value_at}
 use Rattle.pb_rows.specs.Rows.{holds, in_normal_form}
 use Rattle.pb_rows.proofs.ByNets.{holds-normal_form}
-use Rattle.rank_tables.specs.Numbers.{below, numbers_to, is_in, is_distinct}
+use Rattle.rank_tables.specs.Numbers.{below, numbers_to, is_in}
 use Rattle.rank_tables.specs.Instance.{Lists, capacity_of, pair_at, pair_count}
 use Rattle.rank_tables.specs.Stability.{is_weakly_stable}
 use Rattle.rank_tables.specs.Tables.{IsPairNo}
 use Rattle.rank_tables.proofs.PairFacts.{pair_at-acceptable}
 use Rattle.stability_model.specs.Model.{IsExact, TellsBlocking, all_rows_hold, at_most, has_any, hospital_rows, objective, pair_row, pairs_of_point, resident_rows, term, written_rows}
-use Rattle.stability_model.proofs.Numbers.{same_bools, all_at, all_from, all_same, is_in-filter, is_in-below, is_in-numbers_to, distinct-numbers_to, distinct-filter, count_by-filter, kinds_within}
+use Rattle.rank_tables.proofs.Numbers.{same_bools, all_at, all_from, all_same, is_in-filter, is_in-below, is_in-numbers_to, distinct-numbers_to, distinct-filter, count_by-filter, kinds_within}
 use Rattle.stability_model.proofs.PairRow.{PairRow, coefs-blocks, holds-pair_row}
 
 -- ---- a pair's resident and hospital are declared

@@ -1,21 +1,20 @@
 -- The row of a pair holds at the point of a matching exactly where the pair does not block the matching.
-use Rattle.std.proofs.Common.{◌≡◌, ℕ, ◌+◌, ◌≤◌, Bool, true, false, cond, not, ◌&&◌, ◌||◌, List, [], ◌∷◌, ◌==◌, nat_le, nat_lt, if◌then◌else◌, filter, map, sum_by, count_by, length, ℤ, pos, ◌+ℤ◌, int_le, refl, sym, ap, ap₂, ◌∙◌, arith}
-use Rattle.std.specs.List.{list_all, list_any}
-use Rattle.std.proofs.lemmas.Bool.{true≢false, and_parts, or_parts, le-leb, ltb-false}
+use Rattle.std.proofs.Common.{◌≡◌, ℕ, ◌+◌, ◌≤◌, Bool, true, false, cond, not, ◌&&◌, ◌||◌, List, [], ◌∷◌, ◌==◌, nat_le, nat_lt, if◌then◌else◌, filter, map, sum_by, count_by, ℤ, pos, ◌+ℤ◌, int_le, refl, sym, ap, ap₂, ◌∙◌, arith}
+use Rattle.std.specs.List.{list_any}
+use Rattle.std.proofs.lemmas.Bool.{true≢false, or_parts, le-leb, ltb-false}
 use Rattle.std.proofs.lemmas.Bool.Decides.{nat_tests}
 use Rattle.std.proofs.lemmas.Int.{ints}
-use Rattle.std.proofs.lemmas.List.Folds.{list_all-map}
 use Rattle.std.proofs.lemmas.List.Sums.{sum_by-cons}
 use Rattle.hrt_base.specs.declared.literal.Term.{Term}
-use Rattle.pb_rows.specs.Terms.{PlainRow, Written}
 use Rattle.pb_rows.specs.Points.{Point, value_at}
 use Rattle.pb_rows.specs.Rows.{holds, in_normal_form}
 use Rattle.pb_rows.proofs.ByNets.{holds-normal_form}
-use Rattle.rank_tables.specs.Numbers.{below, numbers_to, is_in, is_distinct}
+use Rattle.rank_tables.specs.Numbers.{numbers_to, is_in}
 use Rattle.rank_tables.specs.Instance.{Lists, capacity_of, pair_at, pair_count, rank_by_hospital, rank_by_resident}
-use Rattle.rank_tables.specs.Stability.{blocks, hospital_wants, is_matching, uses_of_hospital, uses_of_resident}
+use Rattle.rank_tables.specs.Stability.{blocks, hospital_wants, is_matching, uses_of_hospital}
 use Rattle.stability_model.specs.Model.{pair_row, point_of_pairs, stability_coef, term}
-use Rattle.stability_model.proofs.Numbers.{all_at, all_from, is_in-filter, is_in-numbers_to, distinct-numbers_to, sum_by-filter, sum_by_of_elements, term-le-sum, list_any-count, kinds_within, list_all-none}
+pub use Rattle.rank_tables.proofs.Membership.{Matching, matching_parts}
+use Rattle.rank_tables.proofs.Numbers.{all_at, all_from, is_in-numbers_to, distinct-numbers_to, sum_by-filter, sum_by_of_elements, term-le-sum, list_any-count, kinds_within, list_all-none}
 
 -- ---- coefficients of this form, over any tests of a list's elements
 
@@ -123,20 +122,7 @@ holds-pair_row lists point p =
 
 -- ---- at a matching
 
--- the parts of `is_matching`
-pub record Matching (lists : Lists) (m : List ℕ) : Type 0 where
-  pub distinct : is_distinct m ≡ true
-  pub in_range : list_all (λ p. nat_le 1 p && nat_le p (pair_count lists)) m ≡ true
-  pub residents : list_all (λ p. nat_le (uses_of_resident lists m (pair_at lists p).resident) 1) m ≡ true
-  pub hospitals : list_all (λ p. nat_le (uses_of_hospital lists m (pair_at lists p).hospital) (capacity_of lists (pair_at lists p).hospital)) m ≡ true
-
-pub matching_parts : (lists : Lists) (m : List ℕ) → is_matching lists m ≡ true → Matching lists m
-matching_parts lists m h =
-    let four = and_parts _ (list_all (λ p. nat_le (uses_of_hospital lists m (pair_at lists p).hospital) (capacity_of lists (pair_at lists p).hospital)) m) h in
-    let three = and_parts _ (list_all (λ p. nat_le (uses_of_resident lists m (pair_at lists p).resident) 1) m) four.0 in
-    let two = and_parts (is_distinct m) (list_all (λ p. nat_le 1 p && nat_le p (pair_count lists)) m) three.0 in
-    record { distinct = two.0; in_range = two.1; residents = three.1; hospitals = four.1 }
-
+-- by the parts of `is_matching`
 pub PairRow : (lists : Lists) (m : List ℕ) (p : ℕ) → is_matching lists m ≡ true → holds (point_of_pairs m) (in_normal_form (pair_row lists p)) ≡ not (blocks lists m p)
 PairRow lists m p h =
     let parts : Matching lists m = matching_parts lists m h in

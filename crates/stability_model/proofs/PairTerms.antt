@@ -1,7 +1,7 @@
 -- The terms that the code writes for the row of a pair make that row.
 use mir.Syntax.{w128}
 use mir.Val.{of_z, to_z}
-use Rattle.std.proofs.Common.{◌≡◌, ℕ, ◌+◌, ◌<◌, ◌≤◌, ◌^◌, Bool, true, false, ◌&&◌, List, [], ◌∷◌, ◌++◌, ◌==◌, nat_le, if◌then◌else◌, filter, map, sum_by, ℤ, pos, ◌+ℤ◌, refl, sym, ap, ap₂, ◌∙◌, subst, arith}
+use Rattle.std.proofs.Common.{◌≡◌, ℕ, ◌+◌, ◌<◌, ◌^◌, Bool, true, false, ◌&&◌, List, [], ◌∷◌, ◌++◌, ◌==◌, nat_le, if◌then◌else◌, sum_by, ℤ, pos, ◌+ℤ◌, refl, sym, ap, ap₂, ◌∙◌, arith}
 use Rattle.std.proofs.lemmas.Bool.{eq-eqb, eqb-true, le-leb}
 use Rattle.std.proofs.lemmas.Int.{ints, to_z_pos}
 use Rattle.std.proofs.lemmas.List.Sums.{sum_by-cons}
@@ -13,9 +13,9 @@ use Rattle.pb_rows.proofs.ByNets.{normal_form-same}
 use Rattle.rank_tables.specs.Numbers.{numbers_to}
 use Rattle.std.specs.Prelude.{unwrap_or}
 use Rattle.rank_tables.specs.Instance.{Lists, capacity_of, groups_of_resident, rank_in, pair_at, pair_count, pairs_of_hospital, pairs_of_resident, rank_by_hospital, rank_by_resident}
-use Rattle.stability_model.specs.Model.{pair_row, stability_coef, term}
+use Rattle.stability_model.specs.Model.{pair_row, stability_coef}
 use Rattle.stability_model.specs.Making.{counted_terms, hospital_share, resident_share}
-use Rattle.stability_model.proofs.Numbers.{sum_by-filter, sum_by_same}
+use Rattle.rank_tables.proofs.Numbers.{sum_by-filter, sum_by_same}
 use Rattle.stability_model.proofs.PairRow.{value_of_terms, value_step}
 
 value-append : (point : Point) (ts us : List Term) → value_at point (ts ++ us) ≡ value_at point ts +ℤ value_at point us

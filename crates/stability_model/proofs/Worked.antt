@@ -1,6 +1,6 @@
 -- The definitions, computed on instances worked by hand.
 use Rattle.std.proofs.Common.{arith}
-use Rattle.std.specs.Prelude.{◌≡◌, true, false, Some, None, [], ◌∷◌, length, pos, negsuc, ◌==◌, nat_le, ◌||◌, refl}
+use Rattle.std.specs.Prelude.{◌≡◌, true, false, Some, None, [], ◌∷◌, pos, negsuc, ◌==◌, nat_le, ◌||◌, refl}
 use Rattle.pb_rows.specs.Points.{value_at}
 use Rattle.rank_tables.specs.Instance.{Lists}
 use Rattle.rank_tables.specs.WellFormed.{IsWellFormed}

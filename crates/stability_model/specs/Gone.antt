@@ -1,5 +1,5 @@
 -- Pairs that two rules show to be in no weakly stable matching.
-use Rattle.std.specs.Prelude.{ℕ, ◌+◌, min, Bool, not, ◌&&◌, ◌||◌, ◌==◌, nat_lt, nat_le, IsTrue, length, count_by, sum_by}
+use Rattle.std.specs.Prelude.{ℕ, min, Bool, not, ◌&&◌, ◌||◌, ◌==◌, nat_lt, nat_le, IsTrue, length, count_by, sum_by}
 use Rattle.std.specs.List.{list_all, list_any}
 use Rattle.rank_tables.specs.Numbers.{below}
 use Rattle.rank_tables.specs.Instance.{Lists, capacity_of, pair_at, pairs_of_hospital, pairs_of_resident, rank_by_hospital, rank_by_resident}

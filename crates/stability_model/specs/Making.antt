@@ -1,5 +1,5 @@
 -- What the steps of making a model leave.
-use Rattle.std.specs.Prelude.{◌≡◌, ◌≤◌, ℕ, ◌+◌, Bool, ◌==◌, nat_le, if◌then◌else◌, List, [], ◌∷◌, ◌++◌, length, map, get_or, Option, Some, None, pos}
+use Rattle.std.specs.Prelude.{◌≡◌, ◌≤◌, ℕ, ◌+◌, ◌==◌, nat_le, if◌then◌else◌, List, [], ◌∷◌, length, map, get_or, Option, Some, None, pos}
 use Rattle.hrt_base.specs.declared.literal.Term.{Term}
 use Rattle.std.specs.declared.vec.Vec.{Vec}
 use Rattle.pb_rows.specs.Terms.{PlainRow}

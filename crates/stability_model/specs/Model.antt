@@ -75,6 +75,9 @@ pair_row lists p = record {
 abbrev pub written_rows : Lists → List Written
 written_rows lists = resident_rows lists ++ hospital_rows lists ++ map (pair_row lists) (numbers_to (pair_count lists))
 
+abbrev pub term_count : Written → ℕ
+term_count row = length row.terms
+
 -- row number k, from 1 on, stands at place k - 1
 abbrev pub rows : Lists → List PlainRow
 rows lists = map in_normal_form (written_rows lists)

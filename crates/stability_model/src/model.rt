@@ -1,7 +1,8 @@
 // The model of an instance.
-ghost use Rattle.std.specs.Prelude.{◌≡◌, ◌-◌, ◌<◌, ◌≤◌, length, slice_get, Some, IfOk, IfSome};
+ghost use Rattle.std.specs.Prelude.{◌≡◌, ◌-◌, ◌<◌, ◌≤◌, length, sum_by, slice_get, Some, IfOk, IfSome};
 ghost use Rattle.rank_tables.specs.Tables.{IsPairNo};
-ghost use Rattle.stability_model.specs.Model.{IsExact, IsRow, TellsBlocking, hospital_row, hospital_row_no, objective, pair_row, pair_row_no, resident_row, resident_row_no, rows, term};
+ghost use Rattle.rank_tables.specs.Terms.{model_terms};
+ghost use Rattle.stability_model.specs.Model.{IsExact, IsRow, TellsBlocking, hospital_row, hospital_row_no, objective, pair_row, pair_row_no, resident_row, resident_row_no, rows, term, term_count, written_rows};
 
 use crate::buckets::pairs_by_hospital;
 use crate::making::{push_hospital_rows, push_pair_rows, push_resident_rows};
@@ -33,11 +34,13 @@ impl<'a> std::marker::Model for Model<'a> {
 }
 
 impl<'a> Model<'a> {
-    /// Makes the model. A point satisfies all rows exactly where its pairs are a weakly stable matching (`exact`).
-    #[tactic(auto, using(crate::proofs::ModelExact::is_exact))]
+    /// Makes the model. A point satisfies all rows exactly where its pairs are a weakly stable matching (`exact`). The count of
+    /// terms that an instance tells is that of the rows (`terms`).
+    #[tactic(auto, using(crate::proofs::ModelExact::is_exact, crate::proofs::TermCount::terms_counted))]
     pub fn of(alloc: Global, inst: &'a Instance) -> Result<Model<'a>, NoMemory>
         ensures is { IfOk result (λ m. m ≡ inst.now) }
         ensures exact { IsExact inst.now }
+        ensures terms { model_terms inst.now ≡ sum_by term_count (written_rows inst.now) }
     {
         let buckets = pairs_by_hospital(alloc, inst)?;
         let mut rows = Vec::new(alloc);

@@ -4,7 +4,7 @@ use Rattle.pb_rows.specs.Terms.{PlainRow, Written}
 use Rattle.pb_rows.specs.Rows.{in_normal_form}
 use Rattle.rank_tables.specs.Numbers.{below}
 use Rattle.rank_tables.specs.Tables.{numbers_of}
-use Rattle.rank_tables.specs.Instance.{capacity_of, pairs_of_hospital}
+use Rattle.rank_tables.specs.Instance.{pairs_of_hospital}
 use Rattle.stability_model.specs.Model.{hospital_has_pair, hospital_row, hospital_row_no, resident_rows}
 use Rattle.stability_model.specs.Making.{number_after, row_if_any}
 use Rattle.stability_model.proofs.Growing.{map_below, rows_counted, rows_few, rows_more, rows_to}

@@ -16,3 +16,4 @@ mod WorkedClosures
 pub mod Numbers
 pub mod Learned
 mod WorkedNotes
+pub mod Ends

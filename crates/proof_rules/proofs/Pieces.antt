@@ -37,6 +37,14 @@ whole_lines-append bytes more =
 pub rest-append : (bytes more : List ℕ) → (cut (bytes ++ more)).rest ≡ (cut ((cut bytes).rest ++ more)).rest
 rest-append bytes more = ap (λ (c : Cut). c.rest) (cut-append bytes more)
 
+-- after bytes without an unfinished line
+pub cut-whole : (bytes more : List ℕ) → (cut bytes).rest ≡ [] → cut (bytes ++ more) ≡ record { whole = (cut bytes).whole ++ (cut more).whole; rest = (cut more).rest }
+cut-whole bytes more e =
+    cut-append bytes more ∙ ap (λ (left : List ℕ). record { whole = (cut bytes).whole ++ (cut (left ++ more)).whole; rest = (cut (left ++ more)).rest }) e
+
+pub whole-append : (bytes more : List ℕ) → (cut bytes).rest ≡ [] → whole_lines (bytes ++ more) ≡ whole_lines bytes ++ whole_lines more
+whole-append bytes more e = ap (λ (c : Cut). map read_line c.whole) (cut-whole bytes more e) ∙ map-append read_line (cut bytes).whole (cut more).whole
+
 -- ---- lines
 
 pub reaches-append : (f : Formula) (here : Place) (lines more : Reading) (middle there : Place) → Reaches f here lines middle → Reaches f middle more there → Reaches f here (lines ++ more) there

@@ -3,7 +3,7 @@ use Rattle.std.proofs.Common.{◌≡◌, ℕ, ◌==◌, Bool, true, false, not, 
 use Rattle.std.specs.Prelude.{Option, Some, None}
 use Rattle.std.specs.List.{list_all}
 use Rattle.std.proofs.lemmas.Bool.{and_parts}
-use Rattle.std.proofs.lemmas.List.{append_assoc, map-append}
+use Rattle.std.proofs.lemmas.List.{append_assoc}
 use Rattle.std.proofs.lemmas.List.Elements.{All-append, All-nil}
 use Rattle.pb_rows.specs.Formula.{Formula}
 use Rattle.rank_tables.specs.Instance.{Lists}
@@ -15,7 +15,7 @@ use Rattle.proof_rules.specs.Valid.{Place, Start, Moves}
 use Rattle.proof_rules.specs.Texts.{Cut, Reading, Reaches, cut, whole_lines, with_byte}
 use Rattle.proof_rules.specs.Held.{Held, first_held}
 use Rattle.proof_rules.specs.Told.{AreTrueNotes, IsTrueAt, NoteAt, Tells, Told, first_told, held_after, noted, notes_by, notes_of, or_here, place_after, told_after, told_by}
-use Rattle.proof_rules.proofs.Pieces.{cut-append, reaches-append}
+use Rattle.proof_rules.proofs.Pieces.{cut-whole, reaches-append, whole-append}
 
 -- ---- lists of lines
 
@@ -48,11 +48,6 @@ tells_told : (lists : Lists) (bytes : List ℕ) (here : Place) (held : Held) →
 tells_told lists bytes here held t =
     ap₂ (λ (p : Place) (h : Held). record { place = p; held = h }) (told-reaches (formula lists) (first_told lists) (cut bytes).whole here t.reaches) t.held_is
 
--- bytes without an unfinished line, and more
-cut-whole : (bytes more : List ℕ) → (cut bytes).rest ≡ [] → cut (bytes ++ more) ≡ record { whole = (cut bytes).whole ++ (cut more).whole; rest = (cut more).rest }
-cut-whole bytes more e =
-    cut-append bytes more ∙ ap (λ (left : List ℕ). record { whole = (cut bytes).whole ++ (cut (left ++ more)).whole; rest = (cut (left ++ more)).rest }) e
-
 pub tells-start : (lists : Lists) → Tells lists [] Start (first_held lists)
 tells-start lists = record { whole = refl; reaches = refl; held_is = refl }
 
@@ -61,15 +56,12 @@ pub tells-append : (lists : Lists) (bytes more : List ℕ) (here there : Place) 
     Tells lists (bytes ++ more) there (told_by (formula lists) (record { place = here; held = held }) (cut more).whole).held
 tells-append lists bytes more here there held t w r = record {
   whole = ap (λ (c : Cut). c.rest) (cut-whole bytes more t.whole) ∙ w;
-  reaches = subst (λ (lines : Reading). Reaches (formula lists) Start lines there) (sym lines)
+  reaches = subst (λ (lines : Reading). Reaches (formula lists) Start lines there) (sym (whole-append bytes more t.whole))
       (reaches-append (formula lists) Start (whole_lines bytes) (whole_lines more) here there t.reaches r);
   held_is = ap (λ (texts : List (List ℕ)). (told_by (formula lists) (first_told lists) texts).held) (ap (λ (c : Cut). c.whole) (cut-whole bytes more t.whole))
       ∙ ap (λ (told : Told). told.held) (told_by-append (formula lists) (first_told lists) (cut bytes).whole (cut more).whole)
       ∙ ap (λ (told : Told). (told_by (formula lists) told (cut more).whole).held) (tells_told lists bytes here held t);
 }
-  where
-    lines : whole_lines (bytes ++ more) ≡ whole_lines bytes ++ whole_lines more
-    lines = ap (λ (c : Cut). map read_line c.whole) (cut-whole bytes more t.whole) ∙ map-append read_line (cut bytes).whole (cut more).whole
 
 pub notes-append : (lists : Lists) (bytes more : List ℕ) (here : Place) (held : Held) → Tells lists bytes here held →
     notes_of lists (bytes ++ more) ≡ notes_of lists bytes ++ notes_by (formula lists) (record { place = here; held = held }) (cut more).whole

@@ -1,5 +1,6 @@
 -- Propagation by sets of literals. A set is a test.
-use Rattle.std.specs.Prelude.{◌+◌, ◌-◌, ◌<◌, ◌≤◌, ℕ, ℤ, pos, ◌-ℤ◌, Bool, false, not, ◌&&◌, if◌then◌else◌, IsTrue, IsFalse, List, [], ◌∷◌, All, slice_index_or}
+use Rattle.std.specs.Prelude.{◌+◌, ◌-◌, ◌<◌, ◌≤◌, ℕ, ℤ, pos, ◌-ℤ◌, Bool, false, not, ◌&&◌, ◌==◌, if◌then◌else◌, IsTrue, IsFalse, List, [], ◌∷◌, All, slice_index_or}
+use Rattle.std.specs.List.{list_any}
 use Rattle.hrt_base.specs.declared.literal.Lit.{Lit}
 use Rattle.hrt_base.specs.declared.literal.Term.{Term}
 use Rattle.hrt_base.specs.declared.literal.Value.{Value}
@@ -13,6 +14,14 @@ Literals = Lit → Bool
 -- no literal
 abbrev pub none : Literals
 none l = false
+
+-- two literals have one variable and one sign
+abbrev pub is_same_lit : Lit → Lit → Bool
+is_same_lit a b = (a.var == b.var) && (if a.neg then b.neg else not b.neg)
+
+-- the literals of a list
+abbrev pub among : List Lit → Literals
+among literals l = list_any (is_same_lit l) literals
 
 -- what an array makes true: variable v stands at place v - 1
 abbrev pub makes_true : Value → Bool → Bool

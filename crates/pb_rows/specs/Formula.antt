@@ -1,5 +1,5 @@
 -- Formulas, and rows that go by numbers.
-use Rattle.std.specs.Prelude.{ℕ, ◌+◌, Bool, ◌==◌, if◌then◌else◌, List, [], ◌∷◌, map, Option, Some, None}
+use Rattle.std.specs.Prelude.{ℕ, ◌+◌, Bool, not, ◌==◌, if◌then◌else◌, List, [], ◌∷◌, map, filter, Option, Some, None}
 use Rattle.std.specs.List.{list_any}
 use Rattle.hrt_base.specs.declared.literal.Term.{Term}
 use Rattle.pb_rows.specs.Terms.{PlainRow}
@@ -28,6 +28,10 @@ row_of n (entry ∷ entries) = if entry.number == n then Some entry.row else row
 -- whether a row has the number
 abbrev pub is_numbered : ℕ → List NumberedRow → Bool
 is_numbered n entries = list_any (λ entry. entry.number == n) entries
+
+-- the rows but those of a number
+abbrev pub without : ℕ → List NumberedRow → List NumberedRow
+without n entries = filter (λ entry. not (entry.number == n)) entries
 
 -- the rows with the numbers from n on
 abbrev pub numbered_from : ℕ → List PlainRow → List NumberedRow

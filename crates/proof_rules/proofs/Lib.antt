@@ -17,3 +17,4 @@ pub mod Numbers
 pub mod Learned
 mod WorkedNotes
 pub mod Ends
+pub mod Held

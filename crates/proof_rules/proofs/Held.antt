@@ -4,9 +4,8 @@ use Rattle.std.proofs.lemmas.Bool.{eqb-true}
 use Rattle.std.proofs.lemmas.List.Elements.{All-cons, All-head, All-tail}
 use Rattle.pb_rows.specs.Terms.{PlainRow}
 use Rattle.pb_rows.specs.Closure.{Keeps, Literals, Refuted}
-use Rattle.pb_rows.specs.Formula.{NumberedRow, rows_of}
+use Rattle.pb_rows.specs.Formula.{NumberedRow, rows_of, without}
 use Rattle.rank_tables.specs.Numbers.{is_in}
-use Rattle.proof_rules.specs.States.{without}
 use Rattle.proof_rules.specs.Held.{Held, held_rows, is_held, keeping}
 
 -- ---- numbers

@@ -10,8 +10,8 @@ use crate::reading::read_tokens;
 use crate::{Line, LineRefusal};
 use std::alloc::Global;
 
-// The longest line, with its line feed.
-const MOST_BYTES: usize = 16_777_216;
+/// The longest line, with its line feed.
+pub const MOST_BYTES: usize = 16_777_216;
 
 /// A line without the carriage return at its end.
 pub fn without_return(line: &[u8]) -> &[u8]

@@ -6,7 +6,7 @@ use Rattle.hrt_base.specs.declared.literal.Lit.{Lit}
 use Rattle.pb_rows.specs.Terms.{PlainRow}
 use Rattle.pb_rows.specs.Closure.{Literals, Refuted, among, is_same_lit}
 use Rattle.pb_rows.proofs.Implied.{closure-unique}
-use Rattle.stability_model.proofs.Numbers.{sum_by_same}
+use Rattle.rank_tables.proofs.Numbers.{sum_by_same}
 use Rattle.rank_tables.specs.Numbers.{numbers_to}
 use Rattle.proof_rules.specs.Notes.{Fresh, HaveSizes, is_greater, set_size, with_lit}
 

@@ -18,3 +18,4 @@ pub mod Learned
 mod WorkedNotes
 pub mod Ends
 pub mod Held
+pub mod HeldLive

@@ -7,4 +7,5 @@ pub mod NotesBack
 pub mod Onto
 pub mod StepByStep
 pub mod StepsBack
+mod WorkedLines
 mod WorkedNotes

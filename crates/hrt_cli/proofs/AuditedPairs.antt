@@ -136,12 +136,12 @@ audit_answered told i q lists pairs answer old mid new start loaded read answere
       );
 }
 
-rejection_on_files : (rejection : Rejection) → IsTrue (is_on_files (status_of (rejected rejection)))
+pub rejection_on_files : (rejection : Rejection) → IsTrue (is_on_files (status_of (rejected rejection)))
 rejection_on_files (refused r) = refl
 rejection_on_files (exceeded what) = refl
 rejection_on_files (pairs_refused r) = refl
 
-passed_as : (rejection : Rejection) (what : Limit) (l : List ℕ) → (l ≡ []) ⊎ (rejection ≡ exceeded what) → (l ≡ []) ⊎ (rejected rejection ≡ rejected (exceeded what))
+pub passed_as : (rejection : Rejection) (what : Limit) (l : List ℕ) → (l ≡ []) ⊎ (rejection ≡ exceeded what) → (l ≡ []) ⊎ (rejected rejection ≡ rejected (exceeded what))
 passed_as rejection what l (inl e) = inl e
 passed_as rejection what l (inr e) = inr (ap rejected e)
 

@@ -1,10 +1,11 @@
 -- What the end of a run says of the code that it answers.
-use Rattle.std.proofs.Common.{◌≡◌, ◌⊎◌, ℕ, Bool, true, false, ◌==◌, nat_lt, List, Option, Some, None, Result, Ok, Err, length, refl, sym, ◌∙◌, ap, inl, inr, option_map, cond}
+use Rattle.std.proofs.Common.{◌≡◌, ◌⊎◌, ℕ, Bool, true, false, ◌==◌, nat_lt, bytes_eq, if◌then◌else◌, List, [], Option, Some, None, Result, Ok, Err, length, refl, sym, ◌∙◌, ap, inl, inr, option_map, cond}
 use Rattle.hrt_base.specs.declared.port.Port.{Port}
 use Rattle.hrt_base.specs.declared.port.Port.TheVariants.{Report}
 use Rattle.hrt_base.specs.declared.host.Begun.TheVariants.{Writing}
 use Rattle.hrt_base.specs.Calls.{Rose}
-use Rattle.hrt_base.specs.World.{World}
+use Rattle.hrt_base.specs.World.{World, store}
+use Rattle.opb_text.specs.Spelling.{model_text}
 use Rattle.rank_tables.specs.Instance.{Lists, pair_count}
 use Rattle.hrt_text.specs.Text.{rows}
 use Rattle.hrt_reader.specs.Refusal.{Refusal, Spells, refusal, lists_of_rows}
@@ -12,11 +13,13 @@ use Rattle.hrt_cli.specs.declared.limit.Limit.TheVariants.{Residents, Hospitals,
 use Rattle.hrt_cli.specs.declared.status.Status.{Status}
 use Rattle.hrt_cli.specs.declared.status.Status.TheVariants.{Done, Misused, InstanceRefused, ReadFault, WriteFault, NoMemory, LimitExceeded, AuditNo, PairsRefused}
 use Rattle.hrt_cli.specs.Limits.{most}
+use Rattle.hrt_cli.specs.Answers.{IsCutShort, LeavesFronts, SendsNothing}
+use Rattle.hrt_cli.specs.Outputs.{Output, files_after, is_output_name, outputs_if_any, outputs_of}
 use Rattle.hrt_cli.specs.Reports.{IsReport}
-use Rattle.hrt_cli.specs.Requests.{Request, solve}
-use Rattle.hrt_cli.specs.Runs.{EndsAs, IsCutShort, IsDecided, IsDue, Reported, KeepsFiles, PrintsBest, SendsNothing, has_report, is_code}
+use Rattle.hrt_cli.specs.Requests.{Request, solve, audit, model}
+use Rattle.hrt_cli.specs.Runs.{EndsAs, IsDecided, IsDue, IsReported, Reported, KeepsFiles, KeepsOthers, PrintsBest, has_report, is_code, keeps_files}
 use Rattle.hrt_cli.specs.Statuses.{code_of}
-use Rattle.hrt_cli.specs.Verdicts.{Rejection, Verdict, misused, refused, exceeded, pairs_refused, rejected, solved, audited, due as due_for, lists_in, solve_verdict, status_of, unless_refused, verdict_of, within}
+use Rattle.hrt_cli.specs.Verdicts.{Files, Rejection, Verdict, misused, refused, exceeded, pairs_refused, rejected, solved, audited, modeled, due as due_for, lists_in, solve_verdict, status_of, unless_refused, verdict_of, within}
 
 pub read_fault : (told : Type 0) (request : Option Request) (status : Status) (old new : World) → EndsAs told request status old new → code_of status ≡ 4
     → Rose old.read_faults new.read_faults
@@ -67,8 +70,8 @@ after_write_fault told request AuditNo old new ends t e = absurd (cc)
 after_write_fault told request PairsRefused old new ends t e = absurd (cc)
 
 pub after_no_memory : (told : Type 0) (request : Option Request) (status : Status) (old new : World) → EndsAs told request status old new → told → code_of status ≡ 6
-    → SendsNothing old.content new.content
-after_no_memory told request NoMemory old new ends t e = ends.nothing t
+    → LeavesFronts request old.content new.content
+after_no_memory told request NoMemory old new ends t e = ends.fronts t
 after_no_memory told request ReadFault old new ends t e = absurd (cc)
 after_no_memory told request WriteFault old new ends t e = absurd (cc)
 after_no_memory told request Done old new ends t e = absurd (cc)
@@ -79,7 +82,7 @@ after_no_memory told request AuditNo old new ends t e = absurd (cc)
 after_no_memory told request PairsRefused old new ends t e = absurd (cc)
 
 -- a code with a report comes of a report
-reported : (told : Type 0) (request : Option Request) (status : Status) (old new : World) → EndsAs told request status old new → has_report (code_of status) ≡ true
+pub reported : (told : Type 0) (request : Option Request) (status : Status) (old new : World) → EndsAs told request status old new → has_report (code_of status) ≡ true
     → Reported told request status old new
 reported told request Done old new ends has = ends
 reported told request Misused old new ends has = ends
@@ -96,7 +99,7 @@ pub decided : (told : Type 0) (request : Option Request) (status : Status) (old 
 decided told request status old new ends t has =
     record { status = status; code = refl; reported = (reported told request status old new ends has).reported t }
 
-some_is : {A : Type 0} (a b : A) → Some a ≡ Some b → a ≡ b
+pub some_is : {A : Type 0} (a b : A) → Some a ≡ Some b → a ≡ b
 some_is a b e = cc
 
 pub due : (told : Type 0) (request : Option Request) (status : Status) (old new : World) → EndsAs told request status old new → told → IsDue request (code_of status) old
@@ -146,16 +149,78 @@ understood_code told request PairsRefused old new ends e = inl (ap code_of (ends
 understood_code told request ReadFault old new ends e = absurd (ends.understood e)
 understood_code told request NoMemory old new ends e = absurd (ends.understood e)
 
-pub files_kept : (told : Type 0) (request : Option Request) (status : Status) (old new : World) → EndsAs told request status old new → told → KeepsFiles old.content new.content
-files_kept told request ReadFault old new ends t = (ends.nothing t).files
-files_kept told request NoMemory old new ends t = (ends.nothing t).files
-files_kept told request WriteFault old new ends t = (ends.cut_short t).alone.files
-files_kept told request Done old new ends t = (ends.reported t).alone.files
-files_kept told request Misused old new ends t = (ends.reported t).alone.files
-files_kept told request InstanceRefused old new ends t = (ends.reported t).alone.files
-files_kept told request LimitExceeded old new ends t = (ends.reported t).alone.files
-files_kept told request AuditNo old new ends t = (ends.reported t).alone.files
-files_kept told request PairsRefused old new ends t = (ends.reported t).alone.files
+-- ---- files
+
+abbrev no_outputs : List Output
+no_outputs = []
+
+-- nothing is written for a verdict that isn't done
+none_written : (request : Option Request) (verdict : Verdict) → (status_of verdict ≡ Done → ⊥) → outputs_of request verdict ≡ no_outputs
+none_written None verdict other = refl
+none_written (Some (solve instance)) verdict other = refl
+none_written (Some (audit instance pairs)) verdict other = refl
+none_written (Some (model instance file)) misused other = refl
+none_written (Some (model instance file)) (rejected rejection) other = refl
+none_written (Some (model instance file)) (solved lists) other = refl
+none_written (Some (model instance file)) (audited lists pairs) other = refl
+none_written (Some (model instance file)) (modeled lists) other = absurd (other refl)
+
+kept_unwritten : (request : Option Request) (status : Status) (old new : World) → (status ≡ Done → ⊥) → IsReported request status old new → KeepsFiles old.content new.content
+kept_unwritten request status old new other told_of name =
+    told_of.sends.files name
+    ∙ ap (λ (outputs : List Output). files_after outputs old.content.file name) (none_written request told_of.verdict (λ e. other (told_of.answered ∙ e)))
+
+pub files_kept : (told : Type 0) (request : Option Request) (status : Status) (old new : World) → EndsAs told request status old new → told → keeps_files (code_of status) ≡ true → KeepsFiles old.content new.content
+files_kept told request ReadFault old new ends t e = (ends.nothing t).files
+files_kept told request NoMemory old new ends t e = absurd (cc)
+files_kept told request WriteFault old new ends t e = absurd (cc)
+files_kept told request Done old new ends t e = absurd (cc)
+files_kept told request Misused old new ends t e = kept_unwritten request Misused old new (λ d. absurd (cc)) (ends.reported t)
+files_kept told request InstanceRefused old new ends t e = kept_unwritten request InstanceRefused old new (λ d. absurd (cc)) (ends.reported t)
+files_kept told request LimitExceeded old new ends t e = kept_unwritten request LimitExceeded old new (λ d. absurd (cc)) (ends.reported t)
+files_kept told request AuditNo old new ends t e = kept_unwritten request AuditNo old new (λ d. absurd (cc)) (ends.reported t)
+files_kept told request PairsRefused old new ends t e = kept_unwritten request PairsRefused old new (λ d. absurd (cc)) (ends.reported t)
+
+not_stored : (file text : List ℕ) (files : Files) (name : List ℕ) → bytes_eq name file ≡ false → store file text files name ≡ files name
+not_stored file text files name e = rw e (by (length file == 0))
+  where
+    by : (b : Bool) → (if b then files name else files name) ≡ files name
+    by true = refl
+    by false = refl
+
+-- a file that no word names as an output
+kept_else : (request : Option Request) (verdict : Verdict) (files : Files) (name : List ℕ) → is_output_name request name ≡ false → files_after (outputs_of request verdict) files name ≡ files name
+kept_else None verdict files name e = refl
+kept_else (Some (solve instance)) verdict files name e = refl
+kept_else (Some (audit instance pairs)) verdict files name e = refl
+kept_else (Some (model instance file)) misused files name e = refl
+kept_else (Some (model instance file)) (rejected rejection) files name e = refl
+kept_else (Some (model instance file)) (solved lists) files name e = refl
+kept_else (Some (model instance file)) (audited lists pairs) files name e = refl
+kept_else (Some (model instance file)) (modeled lists) files name e = not_stored file (model_text lists) files name e
+
+kept_due : (request : Option Request) (verdict : Option Verdict) (files : Files) (name : List ℕ) → is_output_name request name ≡ false → files_after (outputs_if_any request verdict) files name ≡ files name
+kept_due request None files name e = refl
+kept_due request (Some verdict) files name e = kept_else request verdict files name e
+
+either_kept : (a b c : Option (List ℕ)) → (a ≡ b) ⊎ (a ≡ c) → c ≡ b → a ≡ b
+either_kept a b c (inl e) f = e
+either_kept a b c (inr e) f = e ∙ f
+
+kept_reported : (request : Option Request) (status : Status) (old new : World) → IsReported request status old new → KeepsOthers request old.content new.content
+kept_reported request status old new told_of name e = told_of.sends.files name ∙ kept_else request told_of.verdict old.content.file name e
+
+pub others_kept : (told : Type 0) (request : Option Request) (status : Status) (old new : World) → EndsAs told request status old new → told → KeepsOthers request old.content new.content
+others_kept told request ReadFault old new ends t name e = (ends.nothing t).files name
+others_kept told request NoMemory old new ends t name e = either_kept _ _ _ ((ends.fronts t).sends.files name) (kept_due request (verdict_of request old.content.file) old.content.file name e)
+others_kept told request WriteFault old new ends t name e =
+    let cut = ends.cut_short t in either_kept _ _ _ (cut.sends.files name) (kept_else request cut.verdict old.content.file name e)
+others_kept told request Done old new ends t name e = kept_reported request Done old new (ends.reported t) name e
+others_kept told request Misused old new ends t name e = kept_reported request Misused old new (ends.reported t) name e
+others_kept told request InstanceRefused old new ends t name e = kept_reported request InstanceRefused old new (ends.reported t) name e
+others_kept told request LimitExceeded old new ends t name e = kept_reported request LimitExceeded old new (ends.reported t) name e
+others_kept told request AuditNo old new ends t name e = kept_reported request AuditNo old new (ends.reported t) name e
+others_kept told request PairsRefused old new ends t name e = kept_reported request PairsRefused old new (ends.reported t) name e
 
 pub known : (status : Status) → is_code (code_of status) ≡ true
 known Done = refl
@@ -186,7 +251,7 @@ none_refused (Some r) lists found e = absurd (by (r.kind == 11) (r.kind == 12) e
     by false false h = absurd (cc)
 
 -- lists that are taken are those that the text spells
-spelled : (bytes : List ℕ) (found : Lists) → lists_in bytes ≡ Ok found → Spells bytes found
+pub spelled : (bytes : List ℕ) (found : Lists) → lists_in bytes ≡ Ok found → Spells bytes found
 spelled bytes found e = by (nat_lt (most InstanceBytes) (length bytes)) e
   where
     unrefused : unless_refused (refusal (rows bytes)) (lists_of_rows (rows bytes)) ≡ Ok found → Spells bytes found
@@ -230,6 +295,14 @@ not_audited None lists pairs e = absurd (cc)
 not_audited (Some bytes) lists pairs e =
     due_not_audited (within TriedPairs (lists_in bytes)) lists pairs (some_is (solve_verdict bytes) (audited lists pairs) e)
 
+due_not_modeled : (r : Result Lists Rejection) (lists : Lists) → due_for r solved ≡ modeled lists → ⊥
+due_not_modeled (Err rejection) lists e = absurd (cc)
+due_not_modeled (Ok found) lists e = absurd (cc)
+
+not_modeled : (file : Option (List ℕ)) (lists : Lists) → option_map solve_verdict file ≡ Some (modeled lists) → ⊥
+not_modeled None lists e = absurd (cc)
+not_modeled (Some bytes) lists e = due_not_modeled (within TriedPairs (lists_in bytes)) lists (some_is (solve_verdict bytes) (modeled lists) e)
+
 prints_best : (instance : List ℕ) (old new : World) (verdict : Verdict) → verdict_of (Some (solve instance)) old.content.file ≡ Some verdict → code_of (status_of verdict) ≡ 0
     → IsReport verdict (new.content.sent Report) → PrintsBest instance old.content new.content
 prints_best instance old new misused is e report = absurd (cc)
@@ -237,11 +310,12 @@ prints_best instance old new (rejected (refused r)) is e report = absurd (cc)
 prints_best instance old new (rejected (exceeded limit)) is e report = absurd (cc)
 prints_best instance old new (rejected (pairs_refused r)) is e report = absurd (cc)
 prints_best instance old new (audited lists pairs) is e report = absurd (not_audited (old.content.file instance) lists pairs is)
+prints_best instance old new (modeled lists) is e report = absurd (not_modeled (old.content.file instance) lists is)
 prints_best instance old new (solved lists) is e report =
     let file = spelled_in (old.content.file instance) lists is in
     record { bytes = file.bytes; file = file.is_file; lists = lists; spelled = file.spells; pairs = report.pairs; best = report.best; rising = report.rising; report = report.is_report }
 
-zero_has_report : (n : ℕ) → n ≡ 0 → has_report n ≡ true
+pub zero_has_report : (n : ℕ) → n ≡ 0 → has_report n ≡ true
 zero_has_report n e = ap has_report e
 
 pub best : (told : Type 0) (request : Option Request) (status : Status) (old new : World) → EndsAs told request status old new → told → code_of status ≡ 0

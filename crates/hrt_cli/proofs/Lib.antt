@@ -4,3 +4,4 @@ mod FewTerms
 mod Ports
 mod Runs
 mod Solving
+mod WrittenModels

@@ -1,5 +1,6 @@
 -- From what a run did to how it ended.
-use Rattle.std.proofs.Common.{◌≡◌, ℕ, List, [], ◌++◌, ◌⊎◌, take, Option, None, refl, sym, ◌∙◌, ap, subst, arith, inl, inr, IsTrue, codes}
+use Rattle.std.proofs.Common.{◌≡◌, ℕ, List, [], ◌++◌, ◌⊎◌, take, length, Option, None, refl, sym, ◌∙◌, ap, subst, arith, inl, inr, IsTrue, codes}
+use Rattle.std.proofs.lemmas.List.{take_all}
 use Rattle.std.proofs.lemmas.Bool.{cases_eq}
 use Rattle.std.proofs.lemmas.Bool.Decides.{nat_tests}
 use Rattle.hrt_base.specs.declared.port.Port.{Port}
@@ -12,11 +13,14 @@ use Rattle.hrt_base.proofs.Pieces.{port_no-injective, put_here}
 use Rattle.hrt_cli.specs.declared.answer.Answer.{Answer}
 use Rattle.hrt_cli.specs.declared.status.Status.{Status}
 use Rattle.hrt_cli.specs.declared.status.Status.TheVariants.{Done, Misused, InstanceRefused, ReadFault, WriteFault, NoMemory, LimitExceeded, AuditNo, PairsRefused}
-use Rattle.hrt_cli.specs.Answers.{IsAnswered, IsReadOut, PassedAt, is_on_files}
+use Rattle.hrt_cli.specs.declared.stop.Ended.{Ended}
+use Rattle.hrt_cli.specs.declared.stop.Ended.TheVariants as ended
+use Rattle.hrt_cli.specs.Answers.{CutShort, EndsEarly, GivesUp, IsAnswered, IsReadOut, IsWorked, LeavesFronts, PassedAt, SendsNothing, is_on_files}
 use Rattle.hrt_cli.specs.Inputs.{OnlyRead}
+use Rattle.hrt_cli.specs.Outputs.{Output, SendsAll, SendsFronts, files_after, outputs_of, text_on}
 use Rattle.hrt_cli.specs.Reports.{IsReport, line}
 use Rattle.hrt_cli.specs.Requests.{Request}
-use Rattle.hrt_cli.specs.Runs.{IsSentWhole, ReportsAlone, SendsNothing, IsReported, Reported, CutShort, EndsAs}
+use Rattle.hrt_cli.specs.Runs.{IsSentWhole, IsReported, Reported, EndsAs}
 use Rattle.hrt_cli.specs.Verdicts.{Verdict, misused}
 
 -- ---- ports
@@ -24,32 +28,32 @@ use Rattle.hrt_cli.specs.Verdicts.{Verdict, misused}
 pub put_elsewhere : {A : Type 0} (port : Port) (x : A) (f : Port → A) (p : Port) → (port_no p ≡ port_no port → ⊥) → put port x f p ≡ f p
 put_elsewhere port x f p other = grind (arith, nat_tests)
 
-idle_not_writing : (b : Begun) → b ≡ Idle → b ≡ Writing → ⊥
+pub idle_not_writing : (b : Begun) → b ≡ Idle → b ≡ Writing → ⊥
 idle_not_writing b idle writing = let e : Idle ≡ Writing = sym idle ∙ writing in absurd (cc)
 
 -- a host at its start writes on the report alone
-writes_report : (told : Type 0) (w : World) → AtStart told w → (p : Port) → w.begun p ≡ Writing → port_no p ≡ port_no Report
+pub writes_report : (told : Type 0) (w : World) → AtStart told w → (p : Port) → w.begun p ≡ Writing → port_no p ≡ port_no Report
 writes_report told w start p writing = elim (cases_eq (port_no p) (port_no Report)) [
   | inl same ↦ same
   | inr other ↦ absurd (idle_not_writing (w.begun p) (ap (λ (f : Port → Begun). f p) start.begun ∙ put_elsewhere Report Writing (λ q. Idle) p other) writing)
 ]
 
 -- nothing is begun for writing once the report is sealed
-closed_after : (told : Type 0) (text : List ℕ) (old mid new : World) → AtStart told old → OnlyRead told old mid → IsSentWhole told text mid new
+closed_after : (told : Type 0) (text : List ℕ) (mid new : World) → ((p : Port) → mid.begun p ≡ Writing → port_no p ≡ port_no Report) → IsSentWhole told text mid new
     → (p : Port) → new.begun p ≡ Writing → ⊥
-closed_after told text old mid new start read sent p writing = elim (cases_eq (port_no p) (port_no Report)) [
+closed_after told text mid new others sent p writing = elim (cases_eq (port_no p) (port_no Report)) [
   | inl same ↦
       let e : p ≡ Report = port_no-injective p Report same in
       idle_not_writing (new.begun p) (ap (λ (f : Port → Begun). f p) sent.begun ∙ ap (put Report Idle mid.begun) e ∙ put_here Report Idle mid.begun) writing
   | inr other ↦
       let here : mid.begun p ≡ Writing = sym (ap (λ (f : Port → Begun). f p) sent.begun ∙ put_elsewhere Report Idle mid.begun p other) ∙ writing in
-      other (writes_report told old start p ((read.writers p).0 here))
+      other (others p here)
 ]
 
-not_reading : (b : Begun) → b ≡ Idle → b ≡ Reading → ⊥
+pub not_reading : (b : Begun) → b ≡ Idle → b ≡ Reading → ⊥
 not_reading b idle reading = let e : Idle ≡ Reading = sym idle ∙ reading in absurd (cc)
 
-writing_not_reading : (b : Begun) → b ≡ Writing → b ≡ Reading → ⊥
+pub writing_not_reading : (b : Begun) → b ≡ Writing → b ≡ Reading → ⊥
 writing_not_reading b writing reading = let e : Writing ≡ Reading = sym writing ∙ reading in absurd (cc)
 
 -- a host at its start reads on no port
@@ -64,17 +68,60 @@ reads_nothing told w start p reading = elim (cases_eq (port_no p) (port_no Repor
 -- ---- content
 
 -- what reading leaves as it was
-sent_before : (told : Type 0) (old mid : World) → AtStart told old → OnlyRead told old mid → told → (p : Port) → mid.content.sent p ≡ []
+pub sent_before : (told : Type 0) (old mid : World) → AtStart told old → OnlyRead told old mid → told → (p : Port) → mid.content.sent p ≡ []
 sent_before told old mid start read t p = ap (λ (c : Content). c.sent p) (read.content t) ∙ start.sent t p
 
-file_before : (told : Type 0) (old mid : World) → OnlyRead told old mid → told → (name : List ℕ) → mid.content.file name ≡ old.content.file name
+pub file_before : (told : Type 0) (old mid : World) → OnlyRead told old mid → told → (name : List ℕ) → mid.content.file name ≡ old.content.file name
 file_before told old mid read t name = ap (λ (c : Content). c.file name) (read.content t)
 
-name_before : (told : Type 0) (old mid : World) → AtStart told old → OnlyRead told old mid → told → mid.content.name Report ≡ []
+pub name_before : (told : Type 0) (old mid : World) → AtStart told old → OnlyRead told old mid → told → mid.content.name Report ≡ []
 name_before told old mid start read t = ap (λ (c : Content). c.name Report) (read.content t) ∙ start.name t
+
+-- the report is begun, and no other port
+pub report_open : (told : Type 0) (w : World) → AtStart told w → w.begun Report ≡ Writing
+report_open told w start = ap (λ (f : Port → Begun). f Report) start.begun
+
+pub nothing_due : (outputs : List Output) (old mid : Content) → outputs ≡ [] → ((p : Port) → mid.sent p ≡ []) → ((name : List ℕ) → mid.file name ≡ old.file name) → SendsAll outputs old mid
+nothing_due outputs old mid none sent files = record {
+  sent = λ p other. sent p ∙ ap (text_on p) (sym none);
+  files = λ name. files name ∙ ap (λ (os : List Output). files_after os old.file name) (sym none);
+}
+
+-- ---- commands that only read
+
+pub read_worked : (told : Type 0) (request : Option Request) (answer : Answer) (old mid : World) → ((v : Verdict) → outputs_of request v ≡ []) → AtStart told old → IsAnswered told request answer old mid
+    → IsWorked told request answer old mid
+read_worked told request answer old mid none start answered =
+    let read = answered.only_read in
+    record {
+      later = omega (arith, read.write_faults);
+      open_report = (read.writers Report).1 (report_open told old start);
+      others = λ p writing. writes_report told old start p ((read.writers p).0 writing);
+      on_files = answered.on_files;
+      due = λ t. let due = answered.due t in record {
+        verdict = due.0;
+        due = due.1;
+        answered = due.2;
+        read_out = due.3;
+        sends = nothing_due (outputs_of request due.0) old.content mid.content (none due.0) (sent_before told old mid start read t) (file_before told old mid read t);
+        silent = sent_before told old mid start read t Report;
+        unnamed = name_before told old mid start read t;
+      };
+    }
 
 pub nothing_after : (told : Type 0) (old mid : World) → AtStart told old → OnlyRead told old mid → told → SendsNothing old.content mid.content
 nothing_after told old mid start read t = record { sent = sent_before told old mid start read t; files = file_before told old mid read t }
+
+pub leaves_nothing : (told : Type 0) (request : Option Request) (old mid : World) → AtStart told old → OnlyRead told old mid → told → LeavesFronts request old.content mid.content
+leaves_nothing told request old mid start read t = record {
+  silent = sent_before told old mid start read t Report;
+  sends = record { sent = λ p other. (0, sent_before told old mid start read t p); files = λ name. inl (file_before told old mid read t name) };
+}
+
+pub read_ends : (told : Type 0) (request : Option Request) (ended : Ended) (old mid : World) → AtStart told old → GivesUp told ended old mid → EndsEarly told request ended old mid
+read_ends told request ended.ReadFault old mid start up = record { rose = up.rose; nothing = nothing_after told old mid start up.only_read }
+read_ends told request ended.WriteFault old mid start up = absurd up
+read_ends told request ended.NoMemory old mid start up = leaves_nothing told request old mid start up
 
 -- ---- a report that was sent whole
 
@@ -98,23 +145,21 @@ ends_on_files told request LimitExceeded old new on asked closed reported = repo
 ends_on_files told request AuditNo old new on asked closed reported = reported_of told request AuditNo old new (λ e. absurd (cc)) asked closed reported
 ends_on_files told request PairsRefused old new on asked closed reported = reported_of told request PairsRefused old new (λ e. absurd (cc)) asked closed reported
 
-whole_alone : (told : Type 0) (text : List ℕ) (old mid new : World) → AtStart told old → OnlyRead told old mid → IsSentWhole told text mid new → told
-    → ReportsAlone old.content new.content
-whole_alone told text old mid new start read sent t = record {
+whole_sends : (told : Type 0) (text : List ℕ) (outputs : List Output) (old mid new : World) → SendsAll outputs old.content mid.content → mid.content.name Report ≡ [] → IsSentWhole told text mid new → told
+    → SendsAll outputs old.content new.content
+whole_sends told text outputs old mid new sends unnamed sent t = record {
   sent = λ p other.
       ap (λ (c : Content). c.sent p) (sent.content t)
       ∙ put_elsewhere Report (mid.content.sent Report ++ text) mid.content.sent p other
-      ∙ sent_before told old mid start read t p;
+      ∙ sends.sent p other;
   files = λ name.
       ap (λ (c : Content). c.file name) (sent.content t)
-      ∙ ap (λ (n : List ℕ). store n (put Report (mid.content.sent Report ++ text) mid.content.sent Report) mid.content.file name) (name_before told old mid start read t)
-      ∙ file_before told old mid read t name;
+      ∙ ap (λ (n : List ℕ). store n (put Report (mid.content.sent Report ++ text) mid.content.sent Report) mid.content.file name) unnamed
+      ∙ sends.files name;
 }
 
-whole_text : (told : Type 0) (text : List ℕ) (old mid new : World) → AtStart told old → OnlyRead told old mid → IsSentWhole told text mid new → told
-    → new.content.sent Report ≡ text
-whole_text told text old mid new start read sent t =
-    ap (λ (c : Content). c.sent Report) (sent.content t) ∙ ap (λ (l : List ℕ). l ++ text) (sent_before told old mid start read t Report)
+whole_text : (told : Type 0) (text : List ℕ) (mid new : World) → mid.content.sent Report ≡ [] → IsSentWhole told text mid new → told → new.content.sent Report ≡ text
+whole_text told text mid new silent sent t = ap (λ (c : Content). c.sent Report) (sent.content t) ∙ ap (λ (l : List ℕ). l ++ text) silent
 
 whole_read_out : (told : Type 0) (text : List ℕ) (mid new : World) (v : Verdict) → IsSentWhole told text mid new → told → IsReadOut v mid → IsReadOut v new
 whole_read_out told text mid new v sent t out p reading = elim (cases_eq (port_no p) (port_no Report)) [
@@ -126,75 +171,83 @@ whole_read_out told text mid new v sent t out p reading = elim (cases_eq (port_n
       subst (λ (l : List ℕ). (l ≡ []) ⊎ PassedAt v p) (sym (ap (λ (c : Content). c.rest p) (sent.content t))) (out p here)
 ]
 
-pub whole_reported : (told : Type 0) (request : Option Request) (answer : Answer) (old mid new : World) → AtStart told old → IsAnswered told request answer old mid
+pub whole_reported : (told : Type 0) (request : Option Request) (answer : Answer) (old mid new : World) → IsWorked told request answer old mid
     → IsSentWhole told answer.report mid new → (request ≡ None → ⊥) → EndsAs told request answer.status old new
-whole_reported told request answer old mid new start answered sent asked =
-    ends_on_files told request answer.status old new answered.on_files asked
-    (closed_after told answer.report old mid new start answered.only_read sent)
-    (λ t. let due = answered.due t in record {
-      verdict = due.0;
-      due = due.1;
-      answered = due.2.status;
-      report = subst (IsReport due.0) (sym (whole_text told answer.report old mid new start answered.only_read sent t)) due.2.report;
-      read_out = whole_read_out told answer.report mid new due.0 sent t due.3;
-      alone = whole_alone told answer.report old mid new start answered.only_read sent t;
+whole_reported told request answer old mid new worked sent asked =
+    ends_on_files told request answer.status old new worked.on_files asked
+    (closed_after told answer.report mid new worked.others sent)
+    (λ t. let due = worked.due t in record {
+      verdict = due.verdict;
+      due = due.due;
+      answered = due.answered.status;
+      report = subst (IsReport due.verdict) (sym (whole_text told answer.report mid new due.silent sent t)) due.answered.report;
+      read_out = whole_read_out told answer.report mid new due.verdict sent t due.read_out;
+      sends = whole_sends told answer.report (outputs_of request due.verdict) old mid new due.sends due.unnamed sent t;
     })
 
 -- ---- a report of which a front was sent
 
-part_alone : (told : Type 0) (text : List ℕ) (old mid new : World) → AtStart told old → OnlyRead told old mid → Sent told Report text mid new → told
-    → ReportsAlone old.content new.content
-part_alone told text old mid new start read sent t = record {
+part_sends : (told : Type 0) (text : List ℕ) (outputs : List Output) (old mid new : World) → SendsAll outputs old.content mid.content → Sent told Report text mid new → told
+    → SendsAll outputs old.content new.content
+part_sends told text outputs old mid new sends sent t = record {
   sent = λ p other.
       ap (λ (c : Content). c.sent p) (sent.content t)
       ∙ put_elsewhere Report (mid.content.sent Report ++ text) mid.content.sent p other
-      ∙ sent_before told old mid start read t p;
-  files = λ name. ap (λ (c : Content). c.file name) (sent.content t) ∙ file_before told old mid read t name;
+      ∙ sends.sent p other;
+  files = λ name. ap (λ (c : Content). c.file name) (sent.content t) ∙ sends.files name;
 }
 
-part_text : (told : Type 0) (text : List ℕ) (old mid new : World) → AtStart told old → OnlyRead told old mid → Sent told Report text mid new → told
-    → new.content.sent Report ≡ text
-part_text told text old mid new start read sent t =
-    ap (λ (c : Content). c.sent Report) (sent.content t) ∙ ap (λ (l : List ℕ). l ++ text) (sent_before told old mid start read t Report)
+pub all_as_fronts : (outputs : List Output) (old new : Content) → SendsAll outputs old new → SendsFronts outputs old new
+all_as_fronts outputs old new sends = record {
+  sent = λ p other. let text : List ℕ = text_on p outputs in (length text, sends.sent p other ∙ sym (take_all (length text) text (omega arith)));
+  files = λ name. inr (sends.files name);
+}
+
+part_text : (told : Type 0) (text : List ℕ) (mid new : World) → mid.content.sent Report ≡ [] → Sent told Report text mid new → told → new.content.sent Report ≡ text
+part_text told text mid new silent sent t = ap (λ (c : Content). c.sent Report) (sent.content t) ∙ ap (λ (l : List ℕ). l ++ text) silent
 
 part_read_out : (told : Type 0) (text : List ℕ) (mid new : World) (v : Verdict) → Sent told Report text mid new → told → IsReadOut v mid → IsReadOut v new
 part_read_out told text mid new v sent t out p reading =
     let here : mid.begun p ≡ Reading = sym (ap (λ (f : Port → Begun). f p) sent.begun) ∙ reading in
     subst (λ (l : List ℕ). (l ≡ []) ⊎ PassedAt v p) (sym (ap (λ (c : Content). c.rest p) (sent.content t))) (out p here)
 
-pub cut_short : (told : Type 0) (request : Option Request) (answer : Answer) (old mid new : World) → AtStart told old → IsAnswered told request answer old mid
+pub cut_short : (told : Type 0) (request : Option Request) (answer : Answer) (old mid new : World) → IsWorked told request answer old mid
     → SentPart told Report answer.report mid new → CutShort told request old new
-cut_short told request answer old mid new start answered part = record {
-  rose = let rose = part.rose in let same = answered.only_read.write_faults in omega arith;
-  cut_short = λ t. let due = answered.due t in record {
-    verdict = due.0;
-    due = due.1;
-    text = answer.report;
-    report = due.2.report;
-    count = part.part.0;
-    front = part_text told (take part.part.0 answer.report) old mid new start answered.only_read part.part.1 t;
-    read_out = part_read_out told (take part.part.0 answer.report) mid new due.0 part.part.1 t due.3;
-    alone = part_alone told (take part.part.0 answer.report) old mid new start answered.only_read part.part.1 t;
-  };
+cut_short told request answer old mid new worked part = record {
+  rose = let rose = part.rose in let later = worked.later in omega arith;
+  cut_short = λ t.
+      let due = worked.due t in
+      let sends = part_sends told (take part.part.0 answer.report) (outputs_of request due.verdict) old mid new due.sends part.part.1 t in
+      record {
+        verdict = due.verdict;
+        due = due.due;
+        text = answer.report;
+        report = due.answered.report;
+        count = part.part.0;
+        front = part_text told (take part.part.0 answer.report) mid new due.silent part.part.1 t;
+        read_out = part_read_out told (take part.part.0 answer.report) mid new due.verdict part.part.1 t due.read_out;
+        sends = all_as_fronts (outputs_of request due.verdict) old.content new.content sends;
+        report_last = inr sends;
+      };
 }
 
 -- ---- words that ask for nothing
 
-reads_none : (told : Type 0) (w : World) → OnlyRead told w w
-reads_none told w = record { later = omega arith; write_faults = refl; writers = λ p. (λ x. x, λ x. x); content = λ t. refl }
+nothing_yet : (told : Type 0) (w : World) → AtStart told w → told → SendsAll [] w.content w.content
+nothing_yet told w start t = nothing_due [] w.content w.content refl (start.sent t) (λ name. refl)
 
 pub misused_whole : (told : Type 0) (text : List ℕ) (old new : World) → AtStart told old → text ≡ line (codes "words not understood") → IsSentWhole told text old new
     → Reported told None Misused old new
 misused_whole told text old new start is sent = record {
   understood = (λ e. refl, λ e. refl);
-  closed = closed_after told text old old new start (reads_none told old) sent;
+  closed = closed_after told text old new (writes_report told old start) sent;
   reported = λ t. record {
     verdict = misused;
     due = refl;
     answered = refl;
-    report = whole_text told text old old new start (reads_none told old) sent t ∙ is;
+    report = whole_text told text old new (start.sent t Report) sent t ∙ is;
     read_out = whole_read_out told text old new misused sent t (λ p reading. absurd (reads_nothing told old start p reading));
-    alone = whole_alone told text old old new start (reads_none told old) sent t;
+    sends = whole_sends told text [] old old new (nothing_yet told old start t) (start.name t) sent t;
   };
 }
 
@@ -202,14 +255,17 @@ pub misused_cut : (told : Type 0) (text : List ℕ) (old new : World) → AtStar
     → CutShort told None old new
 misused_cut told text old new start is part = record {
   rose = part.rose;
-  cut_short = λ t. record {
-    verdict = misused;
-    due = refl;
-    text = text;
-    report = is;
-    count = part.part.0;
-    front = part_text told (take part.part.0 text) old old new start (reads_none told old) part.part.1 t;
-    read_out = part_read_out told (take part.part.0 text) old new misused part.part.1 t (λ p reading. absurd (reads_nothing told old start p reading));
-    alone = part_alone told (take part.part.0 text) old old new start (reads_none told old) part.part.1 t;
-  };
+  cut_short = λ t.
+      let sends = part_sends told (take part.part.0 text) [] old old new (nothing_yet told old start t) part.part.1 t in
+      record {
+        verdict = misused;
+        due = refl;
+        text = text;
+        report = is;
+        count = part.part.0;
+        front = part_text told (take part.part.0 text) old new (start.sent t Report) part.part.1 t;
+        read_out = part_read_out told (take part.part.0 text) old new misused part.part.1 t (λ p reading. absurd (reads_nothing told old start p reading));
+        sends = all_as_fronts [] old.content new.content sends;
+        report_last = inr sends;
+      };
 }

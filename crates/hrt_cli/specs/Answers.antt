@@ -1,9 +1,10 @@
 -- What a run answers for a verdict.
-use Rattle.std.specs.Prelude.{◌≡◌, ◌⊎◌, Bool, true, false, IsTrue, [], Option, Some}
+use Rattle.std.specs.Prelude.{◌≡◌, ◌⊎◌, ◌≤◌, ℕ, Bool, true, false, IsTrue, List, [], take, Option, Some}
 use Rattle.hrt_base.specs.declared.port.Port.{Port}
 use Rattle.hrt_base.specs.declared.port.Port.TheVariants.{Instance, Pairs, Model, Proof, Report, ModelTwo, ProofTwo}
-use Rattle.hrt_base.specs.declared.host.Begun.TheVariants.{Reading}
-use Rattle.hrt_base.specs.World.{World}
+use Rattle.hrt_base.specs.declared.host.Begun.TheVariants.{Reading, Writing}
+use Rattle.hrt_base.specs.World.{World, Content, port_no}
+use Rattle.hrt_base.specs.Calls.{Rose}
 use Rattle.hrt_reader.specs.Kinds.{number}
 use Rattle.hrt_reader.specs.PairsAnswer.{pairs_number}
 use Rattle.hrt_cli.specs.declared.limit.Limit.TheVariants.{InstanceBytes, PairsBytes}
@@ -16,6 +17,7 @@ use Rattle.hrt_cli.specs.declared.stop.Ended.{Ended}
 use Rattle.hrt_cli.specs.declared.stop.Ended.TheVariants as ended
 use Rattle.hrt_cli.specs.Inputs.{OnlyRead}
 use Rattle.hrt_cli.specs.Loading.{FailedToRead}
+use Rattle.hrt_cli.specs.Outputs.{SendsAll, SendsFronts, outputs_due, outputs_of}
 use Rattle.hrt_cli.specs.Reports.{IsReport}
 use Rattle.hrt_cli.specs.Requests.{Request}
 use Rattle.hrt_cli.specs.Verdicts.{Verdict, rejected, refused, exceeded, pairs_refused, verdict_of, status_of}
@@ -64,14 +66,72 @@ PassedAt verdict ProofTwo = ⊥
 abbrev pub IsReadOut : Verdict → World → Type 0
 IsReadOut verdict w = (port : Port) → w.begun port ≡ Reading → (w.content.rest port ≡ []) ⊎ PassedAt verdict port
 
+-- ---- commands that only read
+
 -- the words and the files come to this answer, and nothing but reading was done
 pub record IsAnswered (told : Type 0) (request : Option Request) (answer : Answer) (old new : World) : Type 0 where
   pub only_read : OnlyRead told old new
   pub on_files : IsTrue (is_on_files answer.status)
   pub due : told → (verdict : Verdict) × (verdict_of request old.content.file ≡ Some verdict) × IsAnswer verdict answer × IsReadOut verdict new
 
--- a run was given up before its report
+-- a command that only reads was given up before its report
 abbrev pub GivesUp : (told : Type 0) → Ended → World → World → Type 0
 GivesUp told ended.ReadFault old new = FailedToRead told old new
 GivesUp told ended.WriteFault old new = ⊥
 GivesUp told ended.NoMemory old new = OnlyRead told old new
+
+-- ---- all commands
+
+-- the words and the files come to this answer, and each output of their verdict was written and sealed
+pub record IsWorkDone (request : Option Request) (answer : Answer) (old new : World) : Type 0 where
+  pub verdict : Verdict
+  pub due : verdict_of request old.content.file ≡ Some verdict
+  pub answered : IsAnswer verdict answer
+  pub read_out : IsReadOut verdict new
+  pub sends : SendsAll (outputs_of request verdict) old.content new.content
+  pub silent : new.content.sent Report ≡ []
+  pub unnamed : new.content.name Report ≡ []
+
+-- a command came to this answer, and the report alone is left to write
+pub record IsWorked (told : Type 0) (request : Option Request) (answer : Answer) (old new : World) : Type 0 where
+  pub later : old.write_faults ≤ new.write_faults
+  pub open_report : new.begun Report ≡ Writing
+  pub others : (p : Port) → new.begun p ≡ Writing → port_no p ≡ port_no Report
+  pub on_files : IsTrue (is_on_files answer.status)
+  pub due : told → IsWorkDone request answer old new
+
+-- a front of the report of what the words and the files come to was sent, and before it fronts of the outputs, or all whole
+pub record IsCutShort (request : Option Request) (old new : World) : Type 0 where
+  pub verdict : Verdict
+  pub due : verdict_of request old.content.file ≡ Some verdict
+  pub text : List ℕ
+  pub report : IsReport verdict text
+  pub count : ℕ
+  pub front : new.content.sent Report ≡ take count text
+  pub read_out : IsReadOut verdict new
+  pub sends : SendsFronts (outputs_of request verdict) old.content new.content
+  pub report_last : (new.content.sent Report ≡ []) ⊎ SendsAll (outputs_of request verdict) old.content new.content
+
+pub record CutShort (told : Type 0) (request : Option Request) (old new : World) : Type 0 where
+  pub rose : Rose old.write_faults new.write_faults
+  pub cut_short : told → IsCutShort request old new
+
+-- nothing was sent, and the files are as they were
+pub record SendsNothing (old new : Content) : Type 0 where
+  pub sent : (port : Port) → new.sent port ≡ []
+  pub files : (name : List ℕ) → new.file name ≡ old.file name
+
+-- fronts of the outputs were sent, and no byte of the report
+pub record LeavesFronts (request : Option Request) (old new : Content) : Type 0 where
+  pub silent : new.sent Report ≡ []
+  pub sends : SendsFronts (outputs_due request old.file) old new
+
+pub record ReadFailed (told : Type 0) (old new : World) : Type 0 where
+  pub rose : Rose old.read_faults new.read_faults
+  pub nothing : told → SendsNothing old.content new.content
+
+-- a command was given up before the report
+abbrev pub EndsEarly : (told : Type 0) → Option Request → Ended → World → World → Type 0
+EndsEarly told request ended.ReadFault old new = ReadFailed told old new
+EndsEarly told request ended.WriteFault old new = CutShort told request old new
+EndsEarly told request ended.NoMemory old new = told → LeavesFronts request old.content new.content

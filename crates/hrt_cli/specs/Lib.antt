@@ -2,8 +2,10 @@ pub mod Answers
 pub mod Inputs
 pub mod Limits
 pub mod Loading
+pub mod Outputs
 pub mod Reports
 pub mod Requests
 pub mod Runs
+pub mod Saving
 pub mod Statuses
 pub mod Verdicts

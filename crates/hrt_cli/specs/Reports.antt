@@ -8,9 +8,10 @@ use Rattle.rank_tables.specs.Tables.{IsPairNo}
 use Rattle.stability_audit.specs.declared.verdict.Verdict.{Verdict as Audit}
 use Rattle.stability_audit.specs.declared.verdict.Verdict.TheVariants.{Stable, ResidentTwice, OverCapacity, Blocked}
 use Rattle.stability_audit.specs.Verdict.{verdict_of as audit_of}
+use Rattle.stability_model.specs.Model.{rows}
 use Rattle.hrt_cli.specs.declared.limit.Limit.{Limit}
 use Rattle.hrt_cli.specs.Limits.{most, name_of}
-use Rattle.hrt_cli.specs.Verdicts.{Verdict, misused, rejected, refused, exceeded, pairs_refused, solved, audited}
+use Rattle.hrt_cli.specs.Verdicts.{Verdict, misused, rejected, refused, exceeded, pairs_refused, solved, audited, modeled}
 
 abbrev pub line : List ℕ → List ℕ
 line text = text ++ 10 ∷ []
@@ -66,6 +67,10 @@ audit_report lists m (ResidentTwice r) = codes "resident-twice " ++ line (name_a
 audit_report lists m (OverCapacity h) = codes "over-capacity " ++ line (name_at (names_of_hospitals lists) h)
 audit_report lists m (Blocked p) = codes "blocked " ++ names_line lists p.0
 
+-- the report on a model
+abbrev pub model_report : Lists → List ℕ
+model_report lists = count_line (codes "variables") (pair_count lists) ++ count_line (codes "rows") (length (rows lists))
+
 -- whom an audit names is declared
 abbrev pub NamesDeclared : Lists → Audit → Type 0
 NamesDeclared lists Stable = Unit {0}
@@ -87,3 +92,4 @@ IsReport (rejected (exceeded limit)) text = text ≡ limit_line limit
 IsReport (rejected (pairs_refused r)) text = text ≡ codes "pairs refused line " ++ place_line r.line (pairs_kind_word r.kind)
 IsReport (solved lists) text = IsSolveReport lists text
 IsReport (audited lists pairs) text = text ≡ audit_report lists pairs (audit_of lists pairs)
+IsReport (modeled lists) text = text ≡ model_report lists

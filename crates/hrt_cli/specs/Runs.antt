@@ -1,8 +1,8 @@
 -- How a run ends, and what stands after it.
-use Rattle.std.specs.Prelude.{◌≡◌, ◌⊎◌, ◌≤◌, ◌↔◌, ℕ, ◌==◌, ◌||◌, Bool, true, not, List, [], take, Option, Some, None}
+use Rattle.std.specs.Prelude.{◌≡◌, ◌⊎◌, ◌≤◌, ◌↔◌, ℕ, ◌==◌, ◌||◌, Bool, true, false, not, List, [], take, Option, Some, None}
 use Rattle.std.specs.List.Sorted.{IsStrictlyIncreasing}
 use Rattle.hrt_base.specs.declared.port.Port.{Port}
-use Rattle.hrt_base.specs.declared.port.Port.TheVariants.{Report}
+use Rattle.hrt_base.specs.declared.port.Port.TheVariants.{Model, Report}
 use Rattle.hrt_base.specs.declared.host.Begun.TheVariants.{Idle, Writing}
 use Rattle.hrt_base.specs.Calls.{Rose}
 use Rattle.hrt_base.specs.World.{World, Content, port_no, put, appended, sealed}
@@ -11,8 +11,10 @@ use Rattle.hrt_cli.specs.declared.status.Status.TheVariants.{Done, Misused, Inst
 use Rattle.rank_tables.specs.Instance.{Lists}
 use Rattle.rank_tables.specs.Stability.{Best}
 use Rattle.hrt_reader.specs.Refusal.{Spells}
-use Rattle.hrt_cli.specs.Answers.{IsReadOut}
-use Rattle.hrt_cli.specs.Reports.{IsReport, solve_report}
+use Rattle.opb_text.specs.Spelling.{model_text}
+use Rattle.hrt_cli.specs.Answers.{CutShort, IsCutShort, IsReadOut, LeavesFronts, SendsNothing}
+use Rattle.hrt_cli.specs.Outputs.{SendsAll, is_output_name, outputs_of}
+use Rattle.hrt_cli.specs.Reports.{IsReport, model_report, solve_report}
 use Rattle.hrt_cli.specs.Requests.{Request}
 use Rattle.hrt_cli.specs.Statuses.{code_of}
 use Rattle.hrt_cli.specs.Verdicts.{Verdict, verdict_of, status_of}
@@ -24,16 +26,6 @@ pub record IsSentWhole (told : Type 0) (text : List ℕ) (old new : World) : Typ
   pub begun : new.begun ≡ put Report Idle old.begun
   pub content : told → new.content ≡ sealed Report (appended Report text old.content)
 
--- nothing was sent but on the report, and the files are as they were
-pub record ReportsAlone (old new : Content) : Type 0 where
-  pub sent : (port : Port) → (port_no port ≡ port_no Report → ⊥) → new.sent port ≡ []
-  pub files : (name : List ℕ) → new.file name ≡ old.file name
-
--- nothing was sent, and the files are as they were
-pub record SendsNothing (old new : Content) : Type 0 where
-  pub sent : (port : Port) → new.sent port ≡ []
-  pub files : (name : List ℕ) → new.file name ≡ old.file name
-
 -- the report of what the words and the files come to was sent whole
 pub record IsReported (request : Option Request) (status : Status) (old new : World) : Type 0 where
   pub verdict : Verdict
@@ -41,27 +33,12 @@ pub record IsReported (request : Option Request) (status : Status) (old new : Wo
   pub answered : status ≡ status_of verdict
   pub report : IsReport verdict (new.content.sent Report)
   pub read_out : IsReadOut verdict new
-  pub alone : ReportsAlone old.content new.content
-
--- a front of such a report was sent
-pub record IsCutShort (request : Option Request) (old new : World) : Type 0 where
-  pub verdict : Verdict
-  pub due : verdict_of request old.content.file ≡ Some verdict
-  pub text : List ℕ
-  pub report : IsReport verdict text
-  pub count : ℕ
-  pub front : new.content.sent Report ≡ take count text
-  pub read_out : IsReadOut verdict new
-  pub alone : ReportsAlone old.content new.content
+  pub sends : SendsAll (outputs_of request verdict) old.content new.content
 
 pub record Reported (told : Type 0) (request : Option Request) (status : Status) (old new : World) : Type 0 where
   pub understood : (status ≡ Misused) ↔ (request ≡ None)
   pub closed : (port : Port) → new.begun port ≡ Writing → ⊥
   pub reported : told → IsReported request status old new
-
-pub record CutShort (told : Type 0) (request : Option Request) (old new : World) : Type 0 where
-  pub rose : Rose old.write_faults new.write_faults
-  pub cut_short : told → IsCutShort request old new
 
 pub record Unread (told : Type 0) (request : Option Request) (old new : World) : Type 0 where
   pub understood : request ≡ None → ⊥
@@ -70,7 +47,7 @@ pub record Unread (told : Type 0) (request : Option Request) (old new : World) :
 
 pub record OutOfMemory (told : Type 0) (request : Option Request) (old new : World) : Type 0 where
   pub understood : request ≡ None → ⊥
-  pub nothing : told → SendsNothing old.content new.content
+  pub fronts : told → LeavesFronts request old.content new.content
 
 -- how a run ends, by its status
 abbrev pub EndsAs : (told : Type 0) → Option Request → Status → World → World → Type 0
@@ -119,6 +96,24 @@ pub record PrintsBest (instance : List ℕ) (old new : Content) : Type 0 where
   pub best : Best lists pairs
   pub rising : IsStrictlyIncreasing pairs
   pub report : new.sent Report ≡ solve_report lists pairs
+
+-- the file that is named, and what was sent, is the model of the instance that the file spells, and the report counts it
+pub record WritesModel (instance name : List ℕ) (old new : Content) : Type 0 where
+  pub bytes : List ℕ
+  pub file : old.file instance ≡ Some bytes
+  pub lists : Lists
+  pub spelled : Spells bytes lists
+  pub sent : new.sent Model ≡ model_text lists
+  pub written : new.file name ≡ Some (model_text lists)
+  pub report : new.sent Report ≡ model_report lists
+
+-- a code after which no file has changed
+abbrev pub keeps_files : ℕ → Bool
+keeps_files n = n == 2 || n == 3 || n == 4 || n == 7 || n == 9 || n == 12
+
+-- every file is as it was, but for those that the words name as outputs
+abbrev pub KeepsOthers : Option Request → Content → Content → Type 0
+KeepsOthers request old new = (name : List ℕ) → is_output_name request name ≡ false → new.file name ≡ old.file name
 
 -- every file is as it was
 abbrev pub KeepsFiles : Content → Content → Type 0

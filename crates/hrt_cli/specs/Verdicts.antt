@@ -13,7 +13,7 @@ use Rattle.hrt_cli.specs.declared.limit.Limit.TheVariants.{Residents, Hospitals,
 use Rattle.hrt_cli.specs.declared.status.Status.{Status}
 use Rattle.hrt_cli.specs.declared.status.Status.TheVariants.{Done, Misused, InstanceRefused, LimitExceeded, AuditNo, PairsRefused}
 use Rattle.hrt_cli.specs.Limits.{most}
-use Rattle.hrt_cli.specs.Requests.{Request, solve, audit}
+use Rattle.hrt_cli.specs.Requests.{Request, solve, audit, model}
 
 -- why a file isn't taken
 pub data Rejection : Type 0 where
@@ -26,6 +26,7 @@ pub data Verdict : Type 0 where
   rejected : Rejection → Verdict  -- a file isn't taken
   solved : Lists → Verdict  -- the pairs of a best matching are due
   audited : Lists → List ℕ → Verdict  -- whether these pairs are weakly stable is due
+  modeled : Lists → Verdict  -- the model is due
 
 -- the files by their names
 abbrev pub Files : Type 0
@@ -79,15 +80,20 @@ abbrev pub on_file : Option (List ℕ) → Option (List ℕ) → Option Verdict
 on_file None pairs = None
 on_file (Some bytes) pairs = on_lists (of_few_terms (within Pairs (lists_in bytes))) pairs
 
+abbrev pub model_verdict : List ℕ → Verdict
+model_verdict bytes = due (of_few_terms (within Pairs (lists_in bytes))) modeled
+
 -- None where a file that is read is absent
 abbrev pub verdict_of : Option Request → Files → Option Verdict
 verdict_of None files = Some misused
 verdict_of (Some (solve instance)) files = option_map solve_verdict (files instance)
 verdict_of (Some (audit instance pairs)) files = on_file (files instance) (files pairs)
+verdict_of (Some (model instance file)) files = option_map model_verdict (files instance)
 
 abbrev pub status_of : Verdict → Status
 status_of (solved lists) = Done
 status_of (audited lists pairs) = if is_weakly_stable lists pairs then Done else AuditNo
+status_of (modeled lists) = Done
 status_of misused = Misused
 status_of (rejected (refused r)) = InstanceRefused
 status_of (rejected (exceeded limit)) = LimitExceeded

@@ -6,6 +6,7 @@ mod auditing;
 mod input;
 mod limit;
 mod loading;
+mod modeling;
 mod program;
 mod report;
 mod solve;

@@ -2,11 +2,12 @@
 ghost use Rattle.std.specs.Prelude.{◌≡◌, ◌⊎◌, ℕ, List, true, IfOk, IfErr, OnOk, OnErr, Some, None};
 ghost use Rattle.hrt_base.specs.declared.port.Port.{Port};
 ghost use Rattle.hrt_base.specs.Calls.{AtStart, Rose, SentPart};
-ghost use Rattle.hrt_cli.specs.Answers.{GivesUp, IsAnswered};
-ghost use Rattle.hrt_cli.specs.Requests.{asked_by, request_of, solve, texts_of};
-ghost use Rattle.hrt_cli.specs.Runs.{EndsAs, IsComplete, IsCutShort, IsDecided, IsDue, IsSentWhole, KeepsFiles, PrintsBest, SendsNothing, has_report, is_code};
+ghost use Rattle.hrt_cli.specs.Answers.{EndsEarly, IsCutShort, IsWorked, LeavesFronts, SendsNothing};
+ghost use Rattle.hrt_cli.specs.Requests.{asked_by, model, request_of, solve, texts_of};
+ghost use Rattle.hrt_cli.specs.Runs.{EndsAs, IsComplete, IsDecided, IsDue, IsSentWhole, KeepsFiles, KeepsOthers, PrintsBest, WritesModel, has_report, is_code, keeps_files};
 
 use crate::auditing::audit;
+use crate::modeling::model;
 use crate::solve::solve;
 use crate::{Answer, Command, Ended, Status, command_of};
 use hrt_base::{Begun, Failed, Host, Port, write_all};
@@ -15,10 +16,11 @@ use std::alloc::Global;
 /// Does what the words ask for, and answers the code with which the program exits: 0 done, 2 words not understood,
 /// 3 instance refused, 4 a read failed, 5 a write failed, 6 out of memory, 7 a limit passed, 9 not
 /// weakly stable, 12 pairs refused.
-#[tactic(auto, using(crate::proofs::Codes::best, crate::proofs::Codes::misused_code, crate::proofs::Codes::understood_code, crate::proofs::Codes::decided, crate::proofs::Codes::due, crate::proofs::Codes::complete, crate::proofs::Codes::read_fault, crate::proofs::Codes::after_read_fault, crate::proofs::Codes::write_fault, crate::proofs::Codes::after_write_fault, crate::proofs::Codes::after_no_memory, crate::proofs::Codes::closed, crate::proofs::Codes::files_kept, crate::proofs::Codes::known))]
+#[tactic(auto, using(crate::proofs::Codes::best, crate::proofs::Codes::misused_code, crate::proofs::Codes::understood_code, crate::proofs::Codes::decided, crate::proofs::Codes::due, crate::proofs::Codes::complete, crate::proofs::Codes::read_fault, crate::proofs::Codes::after_read_fault, crate::proofs::Codes::write_fault, crate::proofs::Codes::after_write_fault, crate::proofs::Codes::after_no_memory, crate::proofs::Codes::closed, crate::proofs::Codes::files_kept, crate::proofs::Codes::others_kept, crate::proofs::WrittenModels::model_written, crate::proofs::Codes::known))]
 pub fn run<H: Host>(alloc: Global, words: &[String], host: &mut H) -> u8
     requires { AtStart H.told (H.world host.old) }
     ensures best { H.told → result ≡ 0 → (instance : List ℕ) → request_of (texts_of words.now) ≡ Some (solve instance) → PrintsBest instance (H.world host.old).content (H.world host.new).content }
+    ensures model { H.told → result ≡ 0 → (instance file : List ℕ) → request_of (texts_of words.now) ≡ Some (model instance file) → WritesModel instance file (H.world host.old).content (H.world host.new).content }
     ensures misused { result ≡ 2 → request_of (texts_of words.now) ≡ None }
     ensures understood { request_of (texts_of words.now) ≡ None → (result ≡ 2) ⊎ (result ≡ 5) }
     ensures decided { H.told → has_report result ≡ true → IsDecided (request_of (texts_of words.now)) result (H.world host.old) (H.world host.new) }
@@ -28,9 +30,10 @@ pub fn run<H: Host>(alloc: Global, words: &[String], host: &mut H) -> u8
     ensures after_read_fault { H.told → result ≡ 4 → SendsNothing (H.world host.old).content (H.world host.new).content }
     ensures write_fault { result ≡ 5 → Rose (H.world host.old).write_faults (H.world host.new).write_faults }
     ensures after_write_fault { H.told → result ≡ 5 → IsCutShort (request_of (texts_of words.now)) (H.world host.old) (H.world host.new) }
-    ensures after_no_memory { H.told → result ≡ 6 → SendsNothing (H.world host.old).content (H.world host.new).content }
+    ensures after_no_memory { H.told → result ≡ 6 → LeavesFronts (request_of (texts_of words.now)) (H.world host.old).content (H.world host.new).content }
     ensures closed { has_report result ≡ true → (port : Port) → (H.world host.new).begun port ≡ Begun.Writing → ⊥ }
-    ensures files { H.told → KeepsFiles (H.world host.old).content (H.world host.new).content }
+    ensures files { H.told → KeepsOthers (request_of (texts_of words.now)) (H.world host.old).content (H.world host.new).content }
+    ensures files_kept { H.told → keeps_files result ≡ true → KeepsFiles (H.world host.old).content (H.world host.new).content }
     ensures known { is_code result ≡ true }
 {
     carry_out(alloc, words, host).code()
@@ -61,12 +64,13 @@ fn carry_out<H: Host>(alloc: Global, words: &[String], host: &mut H) -> Status
 // The answer to a command.
 fn answer_to<H: Host>(alloc: Global, host: &mut H, command: Command) -> Result<Answer, Ended>
     requires { AtStart H.told (H.world host.old) }
-    ensures answered { IfOk result (λ answer. IsAnswered H.told (Some (asked_by command.entry)) answer (H.world host.old) (H.world host.new)) }
-    ensures ended { IfErr result (λ ended. GivesUp H.told ended (H.world host.old) (H.world host.new)) }
+    ensures worked { IfOk result (λ answer. IsWorked H.told (Some (asked_by command.entry)) answer (H.world host.old) (H.world host.new)) }
+    ensures ended { IfErr result (λ ended. EndsEarly H.told (Some (asked_by command.entry)) ended (H.world host.old) (H.world host.new)) }
 {
     match command {
         Command::Solve(instance) => solve(alloc, host, instance),
         Command::Audit(instance, pairs) => audit(alloc, host, instance, pairs),
+        Command::Model(instance, file) => model(alloc, host, instance, file),
     }
 }
 

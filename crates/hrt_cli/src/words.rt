@@ -9,6 +9,8 @@ pub enum Command<'a> {
     Solve(&'a str),
     /// The instance and the pairs.
     Audit(&'a str, &'a str),
+    /// The instance, and the file of its model.
+    Model(&'a str, &'a str),
 }
 
 /// The command that the words spell, if they spell one.
@@ -23,6 +25,10 @@ pub fn command_of<'a>(words: &'a [String]) -> Option<Command<'a>>
         "audit" => {
             let (instance, pairs) = two_files(files)?;
             Some(Command::Audit(instance, pairs))
+        }
+        "model" => {
+            let (instance, file) = two_files(files)?;
+            Some(Command::Model(instance, file))
         }
         _ => None,
     }

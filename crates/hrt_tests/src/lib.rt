@@ -6,6 +6,8 @@ mod audits;
 #[cfg(test)]
 mod faults;
 #[cfg(test)]
+mod models;
+#[cfg(test)]
 mod runs;
 #[cfg(test)]
 mod solves;

@@ -48,6 +48,7 @@ all_lines line row (suc n) =
 pub text_parts : (lists : Lists) → model_text lists ≡
     header_line (pair_count lists) (length (rows lists)) ++ (objective_line (objective lists)
     ++ (resident_lines lists (length lists.residents) ++ (hospital_lines lists (length lists.hospitals) ++ pair_lines lists (pair_count lists))))
+unfolding model_text
 text_parts lists =
     let line : Written → List ℕ = λ row. row_line (canonical row) in
     let residents : List Written = resident_rows lists in

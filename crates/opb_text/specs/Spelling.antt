@@ -38,5 +38,5 @@ abbrev pub opb_spelling : ℕ → List Term → List Written → List ℕ
 opb_spelling vars objective rows = header_line vars (length rows) ++ (objective_line objective ++ flat_map (λ row. row_line (canonical row)) rows)
 
 -- the model of an instance
-abbrev pub model_text : Lists → List ℕ
+unfoldable pub model_text : Lists → List ℕ
 model_text lists = opb_spelling (pair_count lists) (objective lists) (written_rows lists)

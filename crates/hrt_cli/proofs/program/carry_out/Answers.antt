@@ -2,7 +2,7 @@ use Rattle.std.proofs.Common.{Option, List, ℕ, refl, subst}
 use Rattle.hrt_base.specs.declared.port.Port.TheVariants.{Report}
 use Rattle.hrt_base.specs.Calls.{SentPart}
 use Rattle.hrt_cli.specs.Requests.{Request}
-use Rattle.hrt_cli.specs.Runs.{CutShort}
+use Rattle.hrt_cli.specs.Answers.{CutShort}
 use Rattle.hrt_cli.proofs.Runs.{cut_short, misused_cut}
 use Rattle.hrt_cli.proofs.program.carry_out.Goals as goal
 
@@ -15,4 +15,4 @@ pub returns-in-Ok-answer_to : goal.returns-in-Ok-answer_to
 returns-in-Ok-answer_to g c =
     let part = subst (λ (l : List ℕ). SentPart g.H.Host.told Report l (g.H.Host.world c.answer_to.new.host) (g.H.Host.world c.send-in-Ok-answer_to.new.host)) c.as_bytes.ensures c.in-Err-send.ensures.failed in
     subst (λ (r : Option Request). CutShort g.H.Host.told r (g.H.Host.world c.args.host.now) (g.H.Host.world c.send-in-Ok-answer_to.new.host)) c.in-Some.ensures
-    (cut_short _ _ _ _ _ _ c.requires c.in-Ok-answer_to.ensures.answered part)
+    (cut_short _ _ _ _ _ _ c.in-Ok-answer_to.ensures.worked part)

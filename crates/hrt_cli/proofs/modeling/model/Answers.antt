@@ -1,0 +1,8 @@
+use Rattle.hrt_cli.proofs.WrittenModels.{model_answers, model_gives_up, stop_answers, stop_gives_up}
+use Rattle.hrt_cli.proofs.modeling.model.Goals as goal
+
+pub returns-in-Ok-clause-worked : goal.returns-in-Ok-clause-worked
+returns-in-Ok-clause-worked g c = model_answers _ _ _ _ _ _ _ _ c.requires c.in-Ok.ensures.loaded c.modeled.ensures.saved c.modeled.ensures.answered
+
+pub returns-in-Ok-clause-ended : goal.returns-in-Ok-clause-ended
+returns-in-Ok-clause-ended g c = model_gives_up _ _ _ _ _ _ _ _ c.requires c.in-Ok.ensures.loaded c.modeled.ensures.ended

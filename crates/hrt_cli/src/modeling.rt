@@ -1,0 +1,87 @@
+// The command that writes the model.
+ghost use Rattle.std.specs.Prelude.{◌≡◌, Some, IfOk, IfErr, OnOk, OnErr, IsErrOf};
+ghost use Rattle.hrt_base.specs.Calls.{AtStart, Rose};
+ghost use Rattle.opb_text.specs.Spelling.{model_text};
+ghost use Rattle.hrt_cli.specs.Answers.{EndsEarly, IsAnswer, IsWorked};
+ghost use Rattle.hrt_cli.specs.Reports.{model_report};
+ghost use Rattle.hrt_cli.specs.Requests.{model};
+ghost use Rattle.hrt_cli.specs.Verdicts.{modeled};
+ghost use Rattle.hrt_cli.specs.Saving.{EndsSaving, IsSaved, IsSavedInPart};
+
+use crate::loading::load;
+use crate::{Answer, Ended, Limit, Report, Status, explain};
+use hrt_base::{Begun, Host, NoMemory, Port, WriteEnd};
+use opb_text::write_model;
+use rank_tables::Instance;
+use stability_model::Model;
+use std::alloc::Global;
+
+/// Reads the instance and writes its model.
+pub fn model<H: Host>(
+    alloc: Global,
+    host: &mut H,
+    instance: &str,
+    file: &str,
+) -> Result<Answer, Ended>
+    requires { AtStart H.told (H.world host.old) }
+    ensures worked { IfOk result (λ answer. IsWorked H.told (Some (model instance.now file.now)) answer (H.world host.old) (H.world host.new)) }
+    ensures ended { IfErr result (λ ended. EndsEarly H.told (Some (model instance.now file.now)) ended (H.world host.old) (H.world host.new)) }
+{
+    match load(alloc, host, instance, Limit::Pairs) {
+        Ok(inst) => modeled(alloc, host, file, &inst),
+        Err(stop) => explain(alloc, stop),
+    }
+}
+
+// Writes the model of the instance.
+#[tactic(auto, using(crate::proofs::WrittenModels::not_begun))]
+fn modeled<H: Host>(
+    alloc: Global,
+    host: &mut H,
+    file: &str,
+    inst: &Instance,
+) -> Result<Answer, Ended>
+    requires { (H.world host.old).begun Port.Model ≡ Begun.Idle }
+    ensures saved { OnOk result (IsSaved H.told Port.Model file.now (model_text inst.now) (H.world host.old) (H.world host.new)) }
+    ensures answered { IfOk result (λ answer. IsAnswer (modeled inst.now) answer) }
+    ensures ended { IfErr result (λ ended. EndsSaving H.told Port.Model file.now (model_text inst.now) ended (H.world host.old) (H.world host.new)) }
+{
+    let model = Model::of(alloc, inst)?;
+    let report = model_report(alloc, &model)?;
+    match save_model(alloc, host, file, &model) {
+        Ok(()) => Ok(Answer {
+            status: Status::Done,
+            report,
+        }),
+        Err(WriteEnd::Failed) => Err(Ended::WriteFault),
+        Err(WriteEnd::NoMemory) => Err(Ended::NoMemory),
+    }
+}
+
+fn model_report(alloc: Global, model: &Model) -> Result<Report, NoMemory>
+    ensures { IfOk result (λ report. report ≡ model_report model.now) }
+{
+    let mut report = Report::new(alloc);
+    report.push_count("variables", model.instance().pairs())?;
+    report.push_count("rows", model.row_count())?;
+    Ok(report)
+}
+
+// Writes the model under the name and seals it.
+#[tactic(auto, using(crate::proofs::WrittenModels::seal_failed))]
+fn save_model<H: Host>(
+    alloc: Global,
+    host: &mut H,
+    file: &str,
+    model: &Model,
+) -> Result<(), WriteEnd>
+    requires { (H.world host.old).begun Port.Model ≡ Begun.Idle }
+    ensures saved { OnOk result (IsSaved H.told Port.Model file.now (model_text model.now) (H.world host.old) (H.world host.new)) }
+    ensures part { OnErr result (IsSavedInPart H.told Port.Model file.now (model_text model.now) (H.world host.old) (H.world host.new)) }
+    ensures failed { IsErrOf result WriteEnd.Failed → Rose (H.world host.old).write_faults (H.world host.new).write_faults }
+{
+    host.begin_write(Port::Model, file)?;
+    write_model(alloc, model, host)?;
+    host.seal(Port::Model)?;
+    Ok(())
+}

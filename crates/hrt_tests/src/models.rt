@@ -1,0 +1,118 @@
+//! Runs of `model`.
+use crate::runs::{WORKED, host_with, words};
+use hrt_base::{NoMemory, Port};
+use hrt_cli::run;
+use hrt_host::MemoryHost;
+use std::alloc::Global;
+use std::test::Fail;
+
+const WORKED_MODEL: &[u8] =
+    b"* #variable= 3 #constraint= 7\nmin: -1 x1 -1 x2 -1 x3 ;\n-1 x1 -1 x2 >= -1 ;\n-1 x3 >= -1 ;\n-1 x1 -1 x3 >= -1 ;\n-1 x2 >= -1 ;\n+2 x1 +1 x3 >= 1 ;\n+1 x1 +2 x2 >= 1 ;\n+1 x1 +2 x3 >= 1 ;\n";
+
+// A run of `model i m`, with calls that move at most so many bytes, of which this one fails.
+fn model(
+    alloc: Global,
+    instance: &[u8],
+    most: usize,
+    failing: u64,
+) -> Result<(u8, MemoryHost), NoMemory> {
+    let mut host = host_with(alloc, instance, b"")?;
+    host.give_room(Port::Model, "m", 10_000)?;
+    host.piece(most);
+    host.fail_at(failing)?;
+    let words = words(alloc, &["model", "i", "m"])?;
+    let code = run(alloc, &words, &mut host);
+    Ok((code, host))
+}
+
+#[test]
+fn worked_models(rt: HostRuntime) -> Result<(), Fail> {
+    let alloc = rt.alloc();
+    let cases: [(&[u8], u8, Option<&[u8]>, &[u8]); 6] = [
+        (WORKED, 0, Some(WORKED_MODEL), b"variables 3\nrows 7\n"),
+        (
+            b"hrt 1\nresident a: x y\nresident b: x y\nhospital x 1: (a b)\nhospital y 1: a\nend\n",
+            0,
+            Some(WORKED_MODEL),
+            b"variables 3\nrows 7\n",
+        ),
+        (
+            b"hrt 1\nend\n",
+            0,
+            Some(b"* #variable= 0 #constraint= 0\nmin: ;\n"),
+            b"variables 0\nrows 0\n",
+        ),
+        (
+            b"hrt 1\nresident b:\nresident a: x y\nhospital y 20: a\nhospital x 0: a\nend\n",
+            0,
+            Some(
+                b"* #variable= 2 #constraint= 5\nmin: -1 x1 -1 x2 ;\n-1 x1 -1 x2 >= -1 ;\n-1 x2 >= -20 ;\n-1 x1 >= 0 ;\n+1 x1 >= 0 ;\n+20 x1 +21 x2 >= 20 ;\n",
+            ),
+            b"variables 2\nrows 5\n",
+        ),
+        (
+            b"hrt 1\nresident a: q\nend\n",
+            3,
+            None,
+            b"instance refused line 2 UnknownName\n",
+        ),
+        (b"", 3, None, b"instance refused line 1 BadHeader\n"),
+    ];
+    for (instance, code, file, report) in cases.iter() {
+        let ended = model(alloc, instance, 1_000, 1_000)?;
+        assert_eq!(rt; ended.0, *code);
+        assert_eq!(rt; ended.1.file("m"), *file);
+        assert_eq!(rt; ended.1.sent(Port::Report), *report);
+    }
+    Ok(())
+}
+
+#[test]
+fn words_of_the_model(rt: HostRuntime) -> Result<(), Fail> {
+    let alloc = rt.alloc();
+    let cases: [&[&str]; 4] = [
+        &["model", "i"],
+        &["model", "i", "i"],
+        &["model", "i", "-m"],
+        &["model", "i", "m", "p"],
+    ];
+    for texts in cases.iter() {
+        let mut host = host_with(alloc, WORKED, b"")?;
+        let words = words(alloc, texts)?;
+        assert_eq!(rt; run(alloc, &words, &mut host), 2);
+        assert_eq!(rt; host.file("m"), None);
+    }
+    Ok(())
+}
+
+// begin_read and reads; begin_write, writes and a seal; writes and a seal
+#[test]
+fn each_call_fails_in_turn(rt: HostRuntime) -> Result<(), Fail> {
+    let alloc = rt.alloc();
+    let report = b"variables 3\nrows 7\n".as_slice();
+    for most in [1, 3, 16] {
+        let mut statuses = [0u32; 3];
+        for call in 1..500 {
+            let ended = model(alloc, WORKED, most, call)?;
+            let host = &ended.1;
+            let sent = host.sent(Port::Model);
+            let told = host.sent(Port::Report);
+            assert!(rt; WORKED_MODEL.starts_with(sent));
+            assert!(rt; report.starts_with(told));
+            if ended.0 == 4 {
+                assert!(rt; sent.is_empty());
+                statuses[0] += 1;
+            } else if ended.0 == 5 {
+                assert!(rt; told.is_empty() || host.file("m") == Some(WORKED_MODEL));
+                statuses[1] += 1;
+            } else {
+                assert_eq!(rt; ended.0, 0);
+                assert_eq!(rt; host.file("m"), Some(WORKED_MODEL));
+                assert_eq!(rt; told, report);
+                statuses[2] += 1;
+            }
+        }
+        assert!(rt; statuses[0] > 2 && statuses[1] > 13 && statuses[2] > 0);
+    }
+    Ok(())
+}

@@ -4,7 +4,13 @@
 #[cfg(test)]
 mod audits;
 #[cfg(test)]
+mod definition;
+#[cfg(test)]
 mod faults;
+#[cfg(test)]
+mod limits;
+#[cfg(test)]
+mod points;
 #[cfg(test)]
 mod runs;
 #[cfg(test)]

@@ -4,9 +4,15 @@
 #[cfg(test)]
 mod audits;
 #[cfg(test)]
+mod definition;
+#[cfg(test)]
 mod faults;
 #[cfg(test)]
+mod limits;
+#[cfg(test)]
 mod models;
+#[cfg(test)]
+mod points;
 #[cfg(test)]
 mod runs;
 #[cfg(test)]

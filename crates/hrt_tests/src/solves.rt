@@ -97,18 +97,21 @@ fn limits(rt: HostRuntime) -> Result<(), Fail> {
         ended.host.sent(Port::Report),
         b"limit pairs 12\n".as_slice()
     );
-    let mut many = Vec::new(alloc);
-    many.extend_from_slice(b"hrt 1\n")?;
-    for number in 0..20_001u32 {
-        many.extend_from_slice(format!(in alloc; "resident r{number}:\n")?.as_bytes())?;
+    for side in [
+        ("resident r", ":\n", b"limit residents 20000\n".as_slice()),
+        ("hospital h", " 1:\n", b"limit hospitals 20000\n".as_slice()),
+    ] {
+        let (before, behind, report) = side;
+        let mut many = Vec::new(alloc);
+        many.extend_from_slice(b"hrt 1\n")?;
+        for number in 0..20_001u32 {
+            many.extend_from_slice(format!(in alloc; "{before}{number}{behind}")?.as_bytes())?;
+        }
+        many.extend_from_slice(b"end\n")?;
+        let ended = solve(alloc, &many)?;
+        assert_eq!(rt; ended.code, 7);
+        assert_eq!(rt; ended.host.sent(Port::Report), report);
     }
-    many.extend_from_slice(b"end\n")?;
-    let ended = solve(alloc, &many)?;
-    assert_eq!(rt; ended.code, 7);
-    assert_eq!(rt;
-        ended.host.sent(Port::Report),
-        b"limit residents 20000\n".as_slice()
-    );
     Ok(())
 }
 

@@ -6,7 +6,7 @@ use std::test::Fail;
 #[test]
 fn refused_instances(rt: HostRuntime) -> Result<(), Fail> {
     let alloc = rt.alloc();
-    let cases: [(&[u8], &[u8]); 27] = [
+    let cases: [(&[u8], &[u8]); 31] = [
         (b"", b"1 BadHeader"),
         (b"hrt 2\nend\n", b"1 BadHeader"),
         (b"\n\nhrt 1 1\nend\n", b"3 BadHeader"),
@@ -33,6 +33,19 @@ fn refused_instances(rt: HostRuntime) -> Result<(), Fail> {
             b"2 UnknownName",
         ),
         (b"hrt 1\nresident a: q\nend\nx\n", b"4 AfterEnd"),
+        (
+            b"hrt 1\nhospital x 1: (a b)\nresident a: x\nend\n",
+            b"2 UnknownName",
+        ),
+        (
+            b"hrt 1\nresident x: a\nhospital a 1: a\nend\n",
+            b"3 UnknownName",
+        ),
+        (b"hrt 1\nresident a: q\nresident b:", b"3 NoEnd"),
+        (
+            b"hrt 1\nresident a:\nhospital a 0:\nresident a:\nend\n",
+            b"4 DeclaredTwice",
+        ),
         (
             b"hrt 1\nresident a: x x\nhospital x 1: a\nend\n",
             b"2 NamedTwice",

@@ -1,6 +1,11 @@
 pub mod Bounds
 pub mod EndLine
+pub mod Fronts
 pub mod Judged
+pub mod LinesBack
+pub mod NotesBack
 pub mod Onto
 pub mod StepByStep
+pub mod StepsBack
+mod WorkedLines
 mod WorkedNotes

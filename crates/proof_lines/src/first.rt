@@ -10,8 +10,8 @@ use crate::reading::read_tokens;
 use crate::{Line, LineRefusal};
 use std::alloc::Global;
 
-// The longest line, with its line feed.
-const MOST_BYTES: usize = 16_777_216;
+/// The longest line, with its line feed.
+pub const MOST_BYTES: usize = 16_777_216;
 
 /// A line without the carriage return at its end.
 pub fn without_return(line: &[u8]) -> &[u8]
@@ -60,4 +60,54 @@ pub fn is_end_text(bytes: &[u8]) -> bool
     ensures { result ≡ is_end_text bytes.now }
 {
     bytes.len() < MOST_BYTES && has_words(without_return(bytes), b"end pseudo-Boolean proof")
+}
+
+#[cfg(test)]
+mod tests {
+    use super::{is_end_text, next_line};
+    use crate::{LineKind, LineRefusal, read_note};
+    use std::test::Fail;
+
+    // How many lines the bytes have, each of which is read.
+    fn count_lines(rt: &HostRuntime, bytes: &[u8]) -> Result<u32, LineRefusal> {
+        let mut rest = bytes;
+        for count in 0..100 {
+            match next_line(rt.alloc(), rest)? {
+                Some((_, len)) => match rest.get(len..) {
+                    Some(after) => rest = after,
+                    None => return Ok(count),
+                },
+                None => return Ok(count),
+            }
+        }
+        Ok(100)
+    }
+
+    #[test]
+    fn reads_lines(rt: HostRuntime) -> Result<(), Fail> {
+        let proof =
+            b"pseudo-Boolean proof version 2.0\nf 7\npol 1 2 +\nsoli ~x1 x2 x3\noutput NONE\nconclusion BOUNDS -2 -2\nend pseudo-Boolean proof\n";
+        assert_eq!(rt; count_lines(&rt, proof), Ok(7));
+        assert_eq!(rt; count_lines(&rt, b"\n* \n\r\nf 0\npol"), Ok(4));
+        assert_eq!(rt; count_lines(&rt, b"f 07\n"), Err(LineRefusal::Syntax));
+        assert_eq!(rt; count_lines(&rt, b"pol 1 0 *\n"), Err(LineRefusal::Syntax));
+        assert_eq!(rt;
+            count_lines(
+                &rt,
+                b"rup 1329227995784915872903807060280344577 x1 >= 1 ;\n"
+            ),
+            Err(LineRefusal::TooBig(LineKind::Rup))
+        );
+        assert!(rt; is_end_text(b"end pseudo-Boolean proof\r"));
+        assert!(rt; !is_end_text(b"end pseudo-Boolean proof\n"));
+        Ok(())
+    }
+
+    #[test]
+    fn reads_notes(rt: HostRuntime) -> Result<(), Fail> {
+        assert!(rt; read_note(rt.alloc(), b"* note learn 20 : x1 ~x2 : ~x3\n")?.is_some());
+        assert!(rt; read_note(rt.alloc(), b"* note load x1 : 8")?.is_some());
+        assert!(rt; read_note(rt.alloc(), b"* note load x1: 8")?.is_none());
+        Ok(())
+    }
 }

@@ -1,20 +1,34 @@
 -- A row as text is its words with single spaces between them.
-use Rattle.std.proofs.Common.{◌≡◌, ℕ, List, [], ◌∷◌, ◌++◌, refl, sym, ap, ◌∙◌, append_assoc}
+use Rattle.std.proofs.Common.{◌≡◌, ℕ, List, [], ◌∷◌, ◌++◌, map, refl, sym, ap, ◌∙◌, append_assoc}
 use Rattle.std.specs.Prelude.{codes, flat_map}
+use Rattle.std.proofs.lemmas.List.{append-nil}
 use Rattle.std.specs.Fmt.{signed_decimal}
 use Rattle.hrt_base.specs.declared.literal.Term.{Term}
 use Rattle.pb_rows.specs.Terms.{Written}
 use Rattle.row_text.specs.Rows.{literal_text, row_text, row_words, signed_text, term_text, term_words}
 use Rattle.row_text.specs.Tokens.{spaced}
 
-pub spaced-append : (vs ws : List (List ℕ)) → spaced (vs ++ ws) ≡ spaced vs ++ spaced ws
-spaced-append [] ws = refl
-spaced-append (v ∷ vs) ws = ap (λ (l : List ℕ). 32 ∷ (v ++ l)) (spaced-append vs ws) ∙ ap (λ (l : List ℕ). 32 ∷ l) (sym (append_assoc v (spaced vs) (spaced ws)))
+pub spaced_append : (vs ws : List (List ℕ)) → spaced (vs ++ ws) ≡ spaced vs ++ spaced ws
+spaced_append [] ws = refl
+spaced_append (v ∷ vs) ws = ap (λ (l : List ℕ). 32 ∷ (v ++ l)) (spaced_append vs ws) ∙ ap (λ (l : List ℕ). 32 ∷ l) (sym (append_assoc v (spaced vs) (spaced ws)))
+
+-- words, a colon and words
+pub colon_between : (front : List ℕ) (vs ws : List (List ℕ)) → ((front ++ spaced vs) ++ codes " :") ++ spaced ws ≡ front ++ spaced (vs ++ codes ":" ∷ ws)
+colon_between front vs ws =
+    append_assoc (front ++ spaced vs) (codes " :") (spaced ws) ∙ append_assoc front (spaced vs) (codes " :" ++ spaced ws)
+    ∙ ap (λ (l : List ℕ). front ++ l) (sym (spaced_append vs (codes ":" ∷ ws)))
 
 -- items, each of which is some words
-pub spaced-items : {A : Type 0} (words : A → List (List ℕ)) (xs : List A) → spaced (flat_map words xs) ≡ flat_map (λ x. spaced (words x)) xs
-spaced-items words [] = refl
-spaced-items words (x ∷ xs) = spaced-append (words x) (flat_map words xs) ∙ ap (λ (l : List ℕ). spaced (words x) ++ l) (spaced-items words xs)
+pub spaced_items : {A : Type 0} (words : A → List (List ℕ)) (xs : List A) → spaced (flat_map words xs) ≡ flat_map (λ x. spaced (words x)) xs
+spaced_items words [] = refl
+spaced_items words (x ∷ xs) = spaced_append (words x) (flat_map words xs) ∙ ap (λ (l : List ℕ). spaced (words x) ++ l) (spaced_items words xs)
+
+-- items, each of which is one word
+pub spaced_mapped : {A : Type 0} (word : A → List ℕ) (xs : List A) → spaced (map word xs) ≡ flat_map (λ x. spaced (word x ∷ [])) xs
+spaced_mapped word [] = refl
+spaced_mapped word (x ∷ xs) =
+    ap (λ (l : List ℕ). 32 ∷ (word x ++ l)) (spaced_mapped word xs)
+    ∙ ap (λ (l : List ℕ). 32 ∷ (l ++ flat_map (λ y. spaced (word y ∷ [])) xs)) (sym (append-nil (word x)))
 
 abbrev tail_text : Written → List ℕ
 tail_text row = codes ">= " ++ signed_decimal row.at_least ++ codes " ;"
@@ -32,8 +46,8 @@ terms_ahead (t ∷ ts) ws l e =
 row_tail : (row : Written) → spaced (codes ">=" ∷ signed_decimal row.at_least ∷ codes ";" ∷ []) ≡ 32 ∷ tail_text row
 row_tail row = refl
 
-pub row_text-spaced : (row : Written) → 32 ∷ row_text row ≡ spaced (row_words row)
-row_text-spaced row =
+pub row_text_spaced : (row : Written) → 32 ∷ row_text row ≡ spaced (row_words row)
+row_text_spaced row =
     let terms : List ℕ = flat_map term_text row.terms in
     let number : List ℕ = signed_decimal row.at_least in
     ap (λ (r : List ℕ). 32 ∷ r) (append_assoc (terms ++ codes ">= ") number (codes " ;") ∙ append_assoc terms (codes ">= ") (number ++ codes " ;"))

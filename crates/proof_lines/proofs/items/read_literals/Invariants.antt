@@ -2,7 +2,6 @@ use Rattle.std.proofs.Common.{◌≡◌, length}
 use Rattle.std.specs.Prelude.{option_map}
 use Rattle.row_text.specs.Numbers.{read_each, read_literal}
 use Rattle.row_text.specs.Tokens.{tokens}
-
 use Rattle.proof_lines.proofs.Onto.{behind}
 use Rattle.proof_lines.proofs.items.read_literals.Given as goal
 

@@ -15,6 +15,7 @@ at_top = record { last = 0; promoted = false; assigned = false }
 abbrev pub start : Lists → List Standing
 start lists = replicate (length lists.residents) at_top
 
+-- how a resident stands
 abbrev pub standing_of : List Standing → ℕ → Standing
 standing_of standings r = slice_index_or standings r at_top
 
@@ -31,6 +32,7 @@ holds lists standings p =
 abbrev pub held : Lists → List Standing → List ℕ
 held lists standings = filter (holds lists standings) (numbers_to (pair_count lists))
 
+-- those of a hospital
 abbrev pub held_at : Lists → List Standing → ℕ → List ℕ
 held_at lists standings h = filter (λ p. (pair_at lists p).hospital == h) (held lists standings)
 
@@ -38,6 +40,7 @@ held_at lists standings h = filter (λ p. (pair_at lists p).hospital == h) (held
 abbrev pub next_after : Lists → ℕ → ℕ → Option ℕ
 next_after lists r p = find (nat_lt p) (pairs_of_resident lists r)
 
+-- the next pair in a resident's list from where it stands
 abbrev pub next_pair : Lists → List Standing → ℕ → Option ℕ
 next_pair lists standings r = next_after lists r (standing_of standings r).last
 
@@ -73,11 +76,12 @@ after lists r promoted p =
     then record { last = p; promoted = promoted; assigned = false }
     else record { last = 0; promoted = true; assigned = false }
 
--- the standings after the resident of p is assigned by it, and after it is not
+-- the standings after the resident of p is assigned by it
 abbrev pub taken : Lists → List Standing → ℕ → List Standing
 taken lists standings p =
     slice_set standings (pair_at lists p).resident (record { last = p; promoted = is_promoted lists standings p; assigned = true })
 
+-- the standings after the hospital of p refuses its resident, or puts it out
 abbrev pub turned_away : Lists → List Standing → ℕ → List Standing
 turned_away lists standings p =
     slice_set standings (pair_at lists p).resident (after lists (pair_at lists p).resident (is_promoted lists standings p) p)
@@ -90,6 +94,7 @@ has_room lists standings h = nat_lt (uses_of_hospital lists (held lists standing
 abbrev pub displaced : Lists → List Standing → ℕ → Option ℕ
 displaced lists standings p = option_and_then (λ w. if is_lower lists standings w p then Some w else None) (worst lists standings (pair_at lists p).hospital)
 
+-- the standings after a proposal to a full hospital, by the pair that makes place
 abbrev pub compared : Lists → List Standing → ℕ → Option ℕ → List Standing
 compared lists standings p None = turned_away lists standings p
 compared lists standings p (Some w) = taken lists (turned_away lists standings w) p
@@ -101,6 +106,7 @@ proposed lists standings p =
     then taken lists standings p
     else compared lists standings p (displaced lists standings p)
 
+-- the standings after the next proposal, if there is one
 abbrev pub step : Lists → List Standing → Option (List Standing)
 step lists standings = option_map (proposed lists standings) (proposal lists standings)
 
@@ -113,5 +119,6 @@ steps lists (suc n) standings = unwrap_or (option_map (steps lists n) (step list
 abbrev pub final : Lists → List Standing
 final lists = steps lists (2 * pair_count lists) (start lists)
 
+-- the matching with which the steps end, rising
 abbrev pub promotion : Lists → List ℕ
 promotion lists = held lists (final lists)

@@ -17,11 +17,12 @@ pub record IsKept (lists : Lists) (standings : List Standing) (rows : List (List
   pub hospitals : length rows ≡ length lists.hospitals
   pub tenants : (h : ℕ) (t : Tenant → Bool) → count_by t (row rows h) ≡ count_by (λ p. t (tenant_of lists standings p)) (held_at lists standings h)
 
--- the resident that the proposal of p leaves unassigned, if any: the one that is put out, or the one that is refused
+-- the resident that the proposal of p to a full hospital leaves unassigned: the one that makes place, or its own
 abbrev pub left_by : Lists → ℕ → Option ℕ → ℕ
 left_by lists p None = (pair_at lists p).resident
 left_by lists p (Some w) = (pair_at lists w).resident
 
+-- the resident that the proposal of p leaves unassigned, if any
 abbrev pub left_out : Lists → List Standing → ℕ → Option ℕ
 left_out lists standings p =
     if has_room lists standings (pair_at lists p).hospital then None else Some (left_by lists p (displaced lists standings p))

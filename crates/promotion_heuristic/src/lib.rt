@@ -7,6 +7,8 @@ mod queues;
 mod rounds;
 mod standing;
 mod tenant;
+#[cfg(test)]
+mod tests;
 mod turning;
 
 pub use first::promote;

@@ -4,11 +4,11 @@ use Rattle.std.specs.List.{AllByRecursion}
 use Rattle.std.proofs.lemmas.Bool.{and_from, and_parts, eq-eqb, eqb-true, lt-ltb, ltb-true}
 use Rattle.hrt_base.specs.declared.literal.Lit.{Lit}
 use Rattle.pb_rows.specs.Terms.{PlainRow}
-use Rattle.pb_rows.specs.Closure.{Literals, Refuted}
+use Rattle.pb_rows.specs.Closure.{Literals, Refuted, among, is_same_lit}
 use Rattle.pb_rows.proofs.Implied.{closure-unique}
-use Rattle.stability_model.proofs.Numbers.{sum_by_same}
+use Rattle.rank_tables.proofs.Numbers.{sum_by_same}
 use Rattle.rank_tables.specs.Numbers.{numbers_to}
-use Rattle.proof_rules.specs.Notes.{Fresh, HaveSizes, among, is_greater, is_same_lit, set_size, with_lit}
+use Rattle.proof_rules.specs.Notes.{Fresh, HaveSizes, is_greater, set_size, with_lit}
 
 -- under the decisions of a fresh row the held rows aren't refuted
 pub fresh-not_refuted : (held : List PlainRow) (row : PlainRow) (decisions : List Lit) (l : Lit) → Fresh held row decisions l → Refuted held (among decisions) → ⊥

@@ -17,3 +17,5 @@ pub mod Numbers
 pub mod Learned
 mod WorkedNotes
 pub mod Ends
+pub mod Held
+pub mod HeldLive

@@ -6,11 +6,11 @@ use Rattle.hrt_base.specs.declared.literal.Lit.{Lit}
 use Rattle.hrt_base.specs.declared.numbered.RowNo.{RowNo}
 use Rattle.pb_rows.specs.Terms.{PlainRow}
 use Rattle.pb_rows.specs.Points.{value_at}
-use Rattle.pb_rows.specs.Formula.{Formula, NumberedRow, is_numbered, numbered_from, row_of}
+use Rattle.pb_rows.specs.Formula.{Formula, NumberedRow, is_numbered, numbered_from, row_of, without}
 use Rattle.proof_lines.specs.declared.line.Line.{Line}
 use Rattle.proof_lines.specs.declared.line.Line.TheVariants.{Pol, Rup, Soli, Del}
 use Rattle.proof_rules.specs.Pol.{pol_row}
-use Rattle.proof_rules.specs.States.{AreNumbered, IsInOrder, State, after, after_soli, deleted, first_state, is_full, logged, named_point, rup_row, with_row, without}
+use Rattle.proof_rules.specs.States.{AreNumbered, IsInOrder, State, after, after_soli, deleted, first_state, is_full, logged, named_point, rup_row, with_row}
 use Rattle.proof_rules.proofs.Made.{made_hold, made_if, made_known, made_then}
 
 -- ---- lists

@@ -10,7 +10,7 @@ use Rattle.pb_rows.specs.Terms.{PlainRow, Written}
 use Rattle.pb_rows.specs.Points.{Point, is_true_at, value_at}
 use Rattle.pb_rows.specs.Normal.{all_sizes}
 use Rattle.pb_rows.specs.Rows.{AllHold, holds, in_normal_form}
-use Rattle.pb_rows.specs.Formula.{Formula, NumberedRow, is_numbered, numbered_from, rows_of}
+use Rattle.pb_rows.specs.Formula.{Formula, NumberedRow, is_numbered, numbered_from, rows_of, without}
 use Rattle.pb_rows.proofs.ByNets.{holds-normal_form}
 use Rattle.pb_rows.proofs.Implied.{implied-holds}
 use Rattle.row_text.specs.Rows.{is_small_row}
@@ -18,7 +18,7 @@ use Rattle.proof_lines.specs.declared.line.Line.{Line}
 use Rattle.proof_lines.specs.declared.line.Line.TheVariants.{Pol, Rup, Soli, Del}
 use Rattle.proof_lines.specs.declared.line.PolStep.{PolStep}
 use Rattle.proof_rules.specs.Pol.{pol_row}
-use Rattle.proof_rules.specs.States.{State, live_rows, first_state, with_row, literals_in, rup_row, named_point, is_full, minus_terms, at_most_row, smaller, logged, after_soli, without, deleted, after, Follows, Step}
+use Rattle.proof_rules.specs.States.{State, live_rows, first_state, with_row, literals_in, rup_row, named_point, is_full, minus_terms, at_most_row, smaller, logged, after_soli, deleted, after, Follows, Step}
 use Rattle.proof_rules.specs.Sound.{HasNormalRows, IsBelow, IsLogged, IsSoundState, IsUnsigned}
 use Rattle.proof_rules.proofs.Made.{made_if, made_then, made_known, made_hold}
 use Rattle.proof_rules.proofs.PolRows.{pol_row-keeps}

@@ -126,6 +126,19 @@ one_verdict f bytes Truncated (Accepted b) h k = absurd (h.not_ended b k)
 one_verdict f bytes Truncated (Refused b) h k = absurd (truncated-not_refused f bytes k.0 b.why h k.2)
 one_verdict f bytes Truncated Truncated h k = refl
 
+-- ---- by the whole lines, and the bytes that are left
+
+-- the bytes that are left end a valid proof, where the whole lines don't
+pub valid-rest : (f : Formula) (bytes : List ℕ) (here : Place) (claim : Claim) → Reaches f Start (whole_lines bytes) here → IsValidText f bytes claim → Reaches f here (last_line (cut bytes).rest) (Done claim)
+valid-rest f bytes here claim r v =
+    let front = reaches-front f Start (whole_lines bytes) (last_line (cut bytes).rest) (Done claim) v in
+    subst (λ (p : Place). Reaches f p (last_line (cut bytes).rest) (Done claim)) (reaches-unique f Start (whole_lines bytes) front.0 here front.1 r) front.2
+
+-- where they don't, the proof is truncated
+pub truncated-from : (f : Formula) (bytes : List ℕ) (here : Place) → Reaches f Start (whole_lines bytes) here → ((claim : Claim) → here ≡ Done claim → ⊥) →
+    ((claim : Claim) → Reaches f here (last_line (cut bytes).rest) (Done claim) → ⊥) → IsTruncated f bytes
+truncated-from f bytes here r n e = record { here = here; reaches = r; not_done = n; not_ended = λ claim v. e claim (valid-rest f bytes here claim r v) }
+
 -- ---- steps
 
 stays : (s t : State) (r : Result State Refusal) → r ≡ Ok t → and_then r (λ u. to (Proving u)) ≡ to (Proving t)

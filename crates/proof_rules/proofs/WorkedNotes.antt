@@ -6,13 +6,13 @@ use Rattle.std.proofs.lemmas.List.Elements.{All-from_recursion}
 use Rattle.hrt_base.specs.declared.literal.Lit.{Lit}
 use Rattle.pb_rows.specs.Terms.{PlainRow, opposite_lit}
 use Rattle.pb_rows.specs.Rows.{holds}
-use Rattle.pb_rows.specs.Closure.{IsClosure, IsQuiet, IsSettled, Keeps, Literals}
+use Rattle.pb_rows.specs.Closure.{IsClosure, IsQuiet, IsSettled, Keeps, Literals, among}
 use Rattle.stability_model.specs.Model.{point_of_pairs}
 use Rattle.proof_lines.specs.Spelling.{row_no}
 use Rattle.proof_lines.specs.declared.note.Note.TheVariants.{Load}
 use Rattle.proof_rules.specs.Valid.{Proving}
 use Rattle.proof_rules.specs.Held.{first_held, held_rows}
-use Rattle.proof_rules.specs.Notes.{Fresh, HaveSizes, HonestLoad, IsBroken, among, is_greater}
+use Rattle.proof_rules.specs.Notes.{Fresh, HaveSizes, HonestLoad, IsBroken, is_greater}
 use Rattle.proof_rules.specs.Told.{NoteAt, held_by, notes_of}
 use Rattle.proof_rules.proofs.Learned.{among-all}
 use Rattle.proof_rules.proofs.Worked.{not_x, row, s0, tied, w, x}

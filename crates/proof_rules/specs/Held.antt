@@ -1,8 +1,8 @@
 -- The rows that a proof's notes hold, beside those that are held from the start.
-use Rattle.std.specs.Prelude.{ℕ, ◌+◌, Bool, not, ◌==◌, List, [], ◌∷◌, ◌++◌, map, filter, Option, Some, None}
+use Rattle.std.specs.Prelude.{ℕ, ◌+◌, Bool, not, ◌==◌, IsTrue, List, [], ◌∷◌, ◌++◌, map, filter, Option, Some, None}
 use Rattle.hrt_base.specs.declared.numbered.RowNo.{RowNo}
 use Rattle.pb_rows.specs.Terms.{PlainRow}
-use Rattle.pb_rows.specs.Formula.{NumberedRow, rows_of}
+use Rattle.pb_rows.specs.Formula.{NumberedRow, is_numbered, rows_of}
 use Rattle.rank_tables.specs.Numbers.{is_in, numbers_to}
 use Rattle.rank_tables.specs.Instance.{Lists}
 use Rattle.stability_model.specs.Model.{pair_row_no}
@@ -27,6 +27,10 @@ is_held held n = is_in n (held_numbers held)
 -- the live rows that are held
 abbrev pub held_rows : List NumberedRow → Held → List PlainRow
 held_rows live held = rows_of (filter (λ entry. is_held held entry.number) live)
+
+-- each held number is that of a live row
+abbrev pub HeldAreLive : List NumberedRow → Held → Type 0
+HeldAreLive live held = (n : ℕ) → IsTrue (is_held held n) → IsTrue (is_numbered n live)
 
 -- the rows of residents and of hospitals stand before those of pairs
 abbrev pub first_held : Lists → Held

@@ -1,13 +1,12 @@
 -- When a note is true: honest loads, and fresh and later learned rows.
-use Rattle.std.specs.Prelude.{◌≡◌, ℕ, ◌+◌, ◌<◌, Bool, true, false, not, ◌&&◌, ◌||◌, ◌==◌, nat_lt, if◌then◌else◌, IsTrue, IsFalse, List, [], ◌∷◌, ◌++◌, length, count_by, Contains, All, Some}
-use Rattle.std.specs.List.{list_any}
+use Rattle.std.specs.Prelude.{◌≡◌, ℕ, ◌+◌, ◌<◌, Bool, true, false, ◌&&◌, ◌||◌, ◌==◌, nat_lt, IsTrue, IsFalse, List, [], ◌∷◌, ◌++◌, length, count_by, Contains, All, Some}
 use Rattle.hrt_base.specs.declared.literal.Lit.{Lit}
 use Rattle.hrt_base.specs.declared.literal.Term.{Term}
 use Rattle.hrt_base.specs.declared.numbered.RowNo.{RowNo}
 use Rattle.pb_rows.specs.Terms.{PlainRow, opposite_lit}
 use Rattle.pb_rows.specs.Points.{Point}
 use Rattle.pb_rows.specs.Rows.{AllHold, holds, in_normal_form}
-use Rattle.pb_rows.specs.Closure.{IsClosure, Literals, Propagates}
+use Rattle.pb_rows.specs.Closure.{IsClosure, Literals, Propagates, among, is_same_lit}
 use Rattle.pb_rows.specs.Formula.{NumberedRow, is_numbered, row_of}
 use Rattle.rank_tables.specs.Numbers.{is_in, numbers_to}
 use Rattle.rank_tables.specs.Instance.{Lists}
@@ -29,22 +28,12 @@ pub record HonestLoad (lists : Lists) (held : List PlainRow) (trues : List ℕ) 
   pub held_hold : AllHold (point_of_pairs trues) held
   pub broken : All (IsBroken lists (point_of_pairs trues)) ids
 
--- ---- lists of literals as sets
-
--- one variable and one sign
-abbrev pub is_same_lit : Lit → Lit → Bool
-is_same_lit a b = (a.var == b.var) && (if a.neg then b.neg else not b.neg)
-
--- the literals of a list
-abbrev pub among : List Lit → Literals
-among literals l = list_any (is_same_lit l) literals
+-- ---- learned rows
 
 -- neither the literal nor its opposite is in the set
 pub record IsOpen (set : Literals) (l : Lit) : Type 0 where
   pub not_true : IsFalse (set l)
   pub not_false : IsFalse (set (opposite_lit l))
-
--- ---- learned rows
 
 -- each decision is open in the closure of the rows under the decisions before it; some stand before all
 abbrev pub AreDecisions : List PlainRow → List Lit → List Lit → Type 0

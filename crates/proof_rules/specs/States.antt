@@ -1,5 +1,5 @@
 -- States of a proof, and the steps between them.
-use Rattle.std.specs.Prelude.{◌≡◌, ◌≤◌, ℕ, ◌+◌, ◌^◌, Bool, not, ◌&&◌, ◌==◌, nat_le, if◌then◌else◌, List, [], ◌∷◌, ◌++◌, map, filter, length, count_by, ℤ, pos, ◌-ℤ◌, neg_ℤ, int_lt, Option, Some, None, Result, Ok, Err}
+use Rattle.std.specs.Prelude.{◌≡◌, ◌≤◌, ℕ, ◌+◌, ◌^◌, Bool, not, ◌&&◌, ◌==◌, nat_le, if◌then◌else◌, List, [], ◌∷◌, ◌++◌, map, length, count_by, ℤ, pos, ◌-ℤ◌, neg_ℤ, int_lt, Option, Some, None, Result, Ok, Err}
 use Rattle.std.specs.List.{list_all, list_any}
 use Rattle.hrt_base.specs.declared.literal.Lit.{Lit}
 use Rattle.hrt_base.specs.declared.literal.Term.{Term}
@@ -10,6 +10,7 @@ use Rattle.pb_rows.specs.Normal.{all_sizes, normal_form}
 use Rattle.pb_rows.specs.Rows.{holds, in_normal_form}
 use Rattle.pb_rows.specs.Closure.{Implies}
 use Rattle.pb_rows.specs.Formula.{Formula, NumberedRow, is_numbered, numbered_from, rows_of}
+pub use Rattle.pb_rows.specs.Formula.{without}
 use Rattle.rank_tables.specs.Numbers.{numbers_to}
 use Rattle.row_text.specs.Rows.{is_small_row}
 use Rattle.proof_lines.specs.declared.line.Line.{Line}
@@ -98,9 +99,6 @@ after_soli f s ls =
     else Err NotFull)
 
 -- ---- del
-
-abbrev pub without : ℕ → List NumberedRow → List NumberedRow
-without n live = filter (λ entry. not (entry.number == n)) live
 
 -- from left to right, up to the first number that isn't live
 abbrev pub deleted : List RowNo → List NumberedRow → Result (List NumberedRow) Refusal

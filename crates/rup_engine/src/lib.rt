@@ -8,6 +8,8 @@ mod opposite;
 mod propagation;
 mod scan;
 mod slots;
+#[cfg(test)]
+mod tests;
 mod trail;
 mod visit;
 

@@ -3,6 +3,8 @@ pub mod EndLine
 pub mod Fronts
 pub mod Judged
 pub mod LinesBack
+pub mod LinesMade
+pub mod Made
 pub mod NotesBack
 pub mod Onto
 pub mod StepByStep

@@ -1,0 +1,11 @@
+pub mod Rising
+mod Literals
+mod Spelled
+mod NotesOfLines
+mod Standing
+mod Fronts
+mod Taken
+mod Solutions
+mod Asked
+mod Starts
+mod Counts

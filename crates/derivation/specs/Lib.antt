@@ -1,0 +1,4 @@
+pub mod Rising
+pub mod Derived
+pub mod Steps
+pub mod Deletions

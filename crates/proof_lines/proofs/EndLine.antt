@@ -8,7 +8,7 @@ use Rattle.row_text.specs.Tokens.{are, is_comment, tokens}
 use Rattle.row_text.specs.Numbers.{read_each, read_literal}
 use Rattle.row_text.specs.Rows.{read_row}
 use Rattle.proof_lines.specs.declared.line.Line.{Line}
-use Rattle.proof_lines.specs.declared.line.Line.TheVariants.{Header, Count, Pol, Rup, Soli, Del, Output, Conclusion, End, Comment}
+use Rattle.proof_lines.specs.declared.line.Line.TheVariants.{Header, Count, Pol, Rup, Soli, Del, Output, Conclusion, Comment}
 use Rattle.proof_lines.specs.FirstLine.{is_end, is_end_text}
 use Rattle.proof_lines.specs.Spelling.{end_words, header_words, most_bytes, one_or_more, output_words, read_claim, read_count, read_del, read_steps, read_tokens}
 

@@ -6,7 +6,9 @@ pub mod LinesBack
 pub mod LinesMade
 pub mod Made
 pub mod NotesBack
+pub mod NotesMade
 pub mod Onto
+pub mod Spelled
 pub mod StepByStep
 pub mod StepsBack
 mod WorkedLines

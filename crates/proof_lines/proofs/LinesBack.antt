@@ -1,9 +1,9 @@
 -- Lines are read back from their words and from their text.
-use Rattle.std.proofs.Common.{◌≡◌, ℕ, zero, suc, ◌+◌, ◌-◌, ◌^◌, ◌<◌, ◌≤◌, ℤ, pos, negsuc, nat_abs, Bool, true, false, not, ◌&&◌, eqb, List, [], ◌∷◌, ◌++◌, length, get_or, map, Option, Some, None, refl, sym, ap, ap₂, ◌∙◌, arith, if◌then◌else◌}
-use Rattle.std.specs.Prelude.{bytes_eq, codes, decimal, flat_map, nat_le, option_map}
+use Rattle.std.proofs.Common.{◌≡◌, ℕ, zero, suc, ◌+◌, ◌-◌, ◌^◌, ◌<◌, ◌≤◌, ℤ, pos, negsuc, nat_abs, true, false, not, ◌&&◌, eqb, List, [], ◌∷◌, length, map, Option, Some, None, refl, ap, ap₂, arith, if◌then◌else◌}
+use Rattle.std.specs.Prelude.{bytes_eq, codes, decimal, flat_map, option_map}
 use Rattle.std.specs.Fmt.{signed_decimal}
 use Rattle.std.specs.List.{list_all}
-use Rattle.std.proofs.lemmas.Bool.{and_from, and_left, and_parts, le-leb, leb-true, not-true}
+use Rattle.std.proofs.lemmas.Bool.{and_from, and_parts, le-leb, leb-true, not-true}
 use Rattle.std.proofs.lemmas.Fmt.{decimal_digit}
 use Rattle.std.proofs.lemmas.List.{length-append}
 use Rattle.hrt_base.specs.declared.literal.Lit.{Lit}
@@ -12,8 +12,7 @@ use Rattle.hrt_base.specs.declared.numbered.RowNo.{RowNo}
 use Rattle.hrt_text.specs.Text.{without_return}
 use Rattle.row_text.specs.Numbers.{both, is_small, read_each, read_id, read_literal, read_number}
 use Rattle.row_text.specs.Rows.{literal_text}
-use Rattle.row_text.specs.Tokens.{tokens, words_text}
-use Rattle.row_text.proofs.NumberWords.{decimal_word, decimal_writes, id_read, signed_read, signed_word}
+use Rattle.row_text.proofs.NumberWords.{decimal_word, id_read, signed_read, signed_word}
 use Rattle.row_text.proofs.RowBack.{AllMade, row_back, row_words_are, small_abs}
 use Rattle.row_text.proofs.Words.{is_plain, is_word, tokens-words_text, words_text_plain}
 use Rattle.proof_lines.specs.declared.line.PolStep.{PolStep}
@@ -21,9 +20,9 @@ use Rattle.proof_lines.specs.declared.line.Claim.{Claim}
 use Rattle.proof_lines.specs.declared.line.Claim.TheVariants.{Bounds, Unsat, Nothing}
 use Rattle.proof_lines.specs.declared.line.Line.{Line}
 use Rattle.proof_lines.specs.declared.line.Line.TheVariants.{Header, Count, Pol, Rup, Soli, Del, Output, Conclusion, End, Comment, Blank}
-use Rattle.proof_lines.specs.Spelling.{is_small_bound, is_small_claim, is_small_line, is_small_step, most_bytes, one_or_more, read_bound, read_bounds, read_claim, read_count, read_line, read_row_no, read_steps, read_tokens, row_no}
+use Rattle.proof_lines.specs.Spelling.{is_small_bound, is_small_claim, is_small_line, is_small_step, most_bytes, one_or_more, read_bound, read_claim, read_count, read_line, read_row_no, read_steps, read_tokens, row_no}
 use Rattle.proof_lines.specs.Texts.{bound_text, claim_words, id_text, is_made, is_made_id, is_made_literal, is_made_step, is_made_term, is_some_of, line_text, line_words, spelling, step_words}
-use Rattle.proof_lines.proofs.StepsBack.{decimal_not, decimal_not_low, id_made, made_id_read, made_id_word, made_literal_read, made_literal_word, steps_back, steps_words_are, variable_made}
+use Rattle.proof_lines.proofs.StepsBack.{decimal_not, decimal_not_low, made_id_read, made_id_word, made_literal_read, made_literal_word, steps_back, steps_words_are, variable_made}
 
 -- ---- lists
 

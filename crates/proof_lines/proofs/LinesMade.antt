@@ -1,8 +1,8 @@
 -- A line that a text spells is made, and so is a note.
-use Rattle.std.proofs.Common.{◌≡◌, ℕ, ◌+◌, ◌≤◌, ℤ, pos, negsuc, Bool, true, false, ◌&&◌, eqb, List, [], ◌∷◌, length, Option, Some, None, refl, sym, ap, subst, ◌∙◌, arith, if◌then◌else◌}
-use Rattle.std.specs.Prelude.{bytes_eq, codes, nat_le, option_and_then, option_map}
+use Rattle.std.proofs.Common.{◌≡◌, ℕ, ◌+◌, ℤ, pos, negsuc, Bool, true, false, List, [], ◌∷◌, length, Option, Some, None, refl, subst, if◌then◌else◌}
+use Rattle.std.specs.Prelude.{bytes_eq, codes, nat_le, option_map}
 use Rattle.std.specs.List.{list_all}
-use Rattle.std.proofs.lemmas.Bool.{and_from, and_parts}
+use Rattle.std.proofs.lemmas.Bool.{and_from}
 use Rattle.hrt_base.specs.declared.literal.Lit.{Lit}
 use Rattle.hrt_base.specs.declared.literal.Term.{Term}
 use Rattle.hrt_base.specs.declared.numbered.RowNo.{RowNo}
@@ -16,8 +16,8 @@ use Rattle.proof_lines.specs.declared.line.PolStep.TheVariants.{Id, Axiom, Add, 
 use Rattle.proof_lines.specs.declared.line.Line.{Line}
 use Rattle.proof_lines.specs.declared.line.Line.TheVariants.{Header, Count, Pol, Rup, Soli, Del, Output, Conclusion, End, Comment, Blank}
 use Rattle.proof_lines.specs.Spelling.{end_words, factor, header_words, id_or_axiom, most_bytes, one_or_more, output_words, read_claim, read_count, read_del, read_line, read_row_no, read_step, read_steps, read_tokens, read_words, row_no}
-use Rattle.proof_lines.specs.Texts.{is_factor, is_made, is_made_id, is_made_literal, is_made_step, is_made_term, is_made_variable, is_some_of}
-use Rattle.proof_lines.proofs.Made.{Both, both_some, count_made, each_made, id_is_made, if_some, literal_is_made, map_some, row_no_made, some_made, variable_is_made}
+use Rattle.proof_lines.specs.Texts.{is_factor, is_made, is_made_id, is_made_literal, is_made_step, is_made_term, is_some_of}
+use Rattle.proof_lines.proofs.Made.{both_some, count_made, each_made, id_is_made, if_some, literal_is_made, map_some, row_no_made, some_made, variable_is_made}
 
 -- ---- steps
 

@@ -1,18 +1,17 @@
 -- What a text spells is made: its numbers are in their ranges, and what must not be missing isn't.
-use Rattle.std.proofs.Common.{◌≡◌, ℕ, zero, suc, ◌+◌, ◌*◌, ◌-◌, ◌^◌, ◌<◌, ◌≤◌, min, ℤ, pos, negsuc, Bool, true, false, ◌&&◌, eqb, List, [], ◌∷◌, ◌++◌, length, map, Option, Some, None, refl, sym, ap, subst, ◌∙◌, arith, if◌then◌else◌}
+use Rattle.std.proofs.Common.{◌≡◌, ℕ, ◌+◌, ◌*◌, ◌-◌, ◌^◌, ◌<◌, ◌≤◌, min, Bool, true, false, eqb, List, [], ◌∷◌, length, map, Option, Some, None, refl, subst, arith, if◌then◌else◌}
 use Rattle.std.specs.Prelude.{bytes_eq, codes, nat_le, option_map}
 use Rattle.std.specs.Char.{digit_value}
-use Rattle.std.specs.Int.Digits.{number_from_digits_after}
 use Rattle.std.specs.List.{list_all}
 use Rattle.std.specs.Str.{all_ascii_digits}
 use Rattle.std.specs.Str.Parse.{digits_value}
-use Rattle.std.proofs.lemmas.Bool.{and_from, and_parts, cases_Bool, eqb-false, le-leb, leb-true}
+use Rattle.std.proofs.lemmas.Bool.{and_from, and_parts, eqb-false, le-leb, leb-true}
 use Rattle.std.proofs.lemmas.Int.Digits.{digits_value-lt, digits_value_is, number_after_ge}
 use Rattle.std.proofs.lemmas.Str.{digit_value_digit}
 use Rattle.std.proofs.lemmas.Str.Parse.{IsNumeralModel, digit_from_value, digits_value_short, numerals_by_value, tells_all_ascii_digits}
 use Rattle.hrt_base.specs.declared.literal.Lit.{Lit}
 use Rattle.hrt_base.specs.declared.numbered.RowNo.{RowNo}
-use Rattle.row_text.specs.Numbers.{both, read_digits, read_each, read_id, read_literal, read_number, read_positive, read_variable}
+use Rattle.row_text.specs.Numbers.{both, read_digits, read_each, read_id, read_literal, read_positive, read_variable}
 use Rattle.proof_lines.specs.Spelling.{one_or_more, read_count, read_row_no, row_no}
 use Rattle.proof_lines.specs.Texts.{is_made_id, is_made_literal, is_made_variable, is_some_of}
 

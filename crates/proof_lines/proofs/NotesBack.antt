@@ -1,21 +1,20 @@
 -- Notes are read back from their words and from their text.
-use Rattle.std.proofs.Common.{◌≡◌, ℕ, ◌+◌, ◌≤◌, Bool, true, false, not, ◌&&◌, eqb, List, [], ◌∷◌, ◌++◌, length, map, Option, Some, None, refl, sym, ap, ap₂, ◌∙◌, arith}
-use Rattle.std.specs.Prelude.{bytes_eq, codes, nat_le, option_and_then, option_map}
+use Rattle.std.proofs.Common.{◌≡◌, ℕ, ◌+◌, ◌≤◌, Bool, true, false, not, ◌&&◌, eqb, List, [], ◌∷◌, ◌++◌, length, map, Some, refl, ap, ap₂, ◌∙◌, arith}
+use Rattle.std.specs.Prelude.{bytes_eq, codes, option_and_then, option_map}
 use Rattle.std.specs.List.{list_all}
 use Rattle.std.proofs.lemmas.Bool.{and_from, and_parts, le-leb, not-true}
 use Rattle.std.proofs.lemmas.List.{length-append}
 use Rattle.hrt_base.specs.declared.literal.Lit.{Lit}
-use Rattle.hrt_base.specs.declared.numbered.RowNo.{RowNo}
 use Rattle.hrt_text.specs.Text.{without_return}
-use Rattle.row_text.specs.Numbers.{both, read_each, read_literal, read_variable}
+use Rattle.row_text.specs.Numbers.{both, read_literal, read_variable}
 use Rattle.row_text.specs.Rows.{literal_text}
-use Rattle.row_text.specs.Tokens.{tokens, words_text}
+use Rattle.row_text.specs.Tokens.{tokens}
 use Rattle.row_text.proofs.Words.{all_words, is_plain, is_word, tokens-words_text, words_text_plain}
 use Rattle.proof_lines.specs.declared.note.Note.{Note}
 use Rattle.proof_lines.specs.declared.note.Note.TheVariants.{Unit as unit_note, Bound as bound_note, Load as load_note, Learn as learn_note, Drop as drop_note}
-use Rattle.proof_lines.specs.Spelling.{most_bytes, one_or_more, read_row_no}
-use Rattle.proof_lines.specs.Notes.{Front, learn_behind, learn_from, load_behind, note_in, note_of, read_front, read_note_tokens, with_item, without_feed}
-use Rattle.proof_lines.specs.Texts.{id_text, is_made_id, is_made_literal, is_made_note, is_made_variable, is_some_of, note_spelling, note_tail, note_text, note_words, variable_text}
+use Rattle.proof_lines.specs.Spelling.{most_bytes}
+use Rattle.proof_lines.specs.Notes.{learn_behind, learn_from, load_behind, note_in, note_of, read_front, read_note_tokens, with_item, without_feed}
+use Rattle.proof_lines.specs.Texts.{id_text, is_made_id, is_made_literal, is_made_note, is_made_variable, is_some_of, note_spelling, note_text, note_words, variable_text}
 use Rattle.proof_lines.proofs.LinesBack.{literals_words, row_no_back, some_ids_back, some_ids_words, without_return_plain}
 use Rattle.proof_lines.proofs.StepsBack.{made_id_word, made_literal_read, made_literal_word, made_variable_read, made_variable_word}
 

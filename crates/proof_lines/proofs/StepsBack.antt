@@ -1,13 +1,13 @@
 -- Steps are read back from their words.
-use Rattle.std.proofs.Common.{◌≡◌, ℕ, ◌-◌, ◌^◌, ◌<◌, ◌≤◌, ℤ, pos, negsuc, nat_abs, Bool, true, false, ◌&&◌, eqb, List, [], ◌∷◌, ◌++◌, length, Option, Some, None, refl, sym, ap, ap₂, ◌∙◌, arith, if◌then◌else◌}
+use Rattle.std.proofs.Common.{◌≡◌, ℕ, ◌-◌, ◌^◌, ◌<◌, ◌≤◌, ℤ, pos, negsuc, Bool, true, false, eqb, List, [], ◌∷◌, ◌++◌, length, Option, Some, None, refl, ap, ap₂, ◌∙◌, arith, if◌then◌else◌}
 use Rattle.std.specs.Prelude.{bytes_eq, codes, decimal, flat_map, nat_le, option_map}
 use Rattle.std.specs.Fmt.{signed_decimal}
 use Rattle.std.specs.List.{list_all}
 use Rattle.std.specs.Str.{all_ascii_digits}
-use Rattle.std.proofs.lemmas.Bool.{and_from, and_left, and_parts, le-leb, leb-true}
+use Rattle.std.proofs.lemmas.Bool.{and_from, and_left, and_parts, leb-true}
 use Rattle.hrt_base.specs.declared.literal.Lit.{Lit}
 use Rattle.hrt_base.specs.declared.numbered.RowNo.{RowNo}
-use Rattle.row_text.specs.Numbers.{both, is_small, read_id, read_literal, read_number, read_positive, read_variable}
+use Rattle.row_text.specs.Numbers.{both, is_small, read_id, read_literal, read_number, read_variable}
 use Rattle.row_text.specs.Rows.{literal_text}
 use Rattle.row_text.proofs.NumberWords.{Writes, decimal_word, decimal_writes, id_read, literal_read, literal_word, not_first, signed_read, signed_word, variable_read, variable_word}
 use Rattle.row_text.proofs.RowBack.{small_abs}

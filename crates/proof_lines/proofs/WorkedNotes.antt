@@ -1,7 +1,6 @@
 -- Lines and the notes that they are.
 use Rattle.std.proofs.Common.{◌≡◌, [], ◌∷◌, ◌++◌, refl, true, false, None, Some}
 use Rattle.std.specs.Prelude.{codes}
-use Rattle.hrt_base.specs.declared.literal.Lit.{Lit}
 use Rattle.proof_lines.specs.Spelling.{row_no}
 use Rattle.proof_lines.specs.Notes.{note_of}
 use Rattle.proof_lines.specs.declared.note.Note.TheVariants.{Unit as unit_note, Bound as bound_note, Load as load_note, Learn as learn_note, Drop as drop_note}

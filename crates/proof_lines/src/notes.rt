@@ -3,7 +3,7 @@
 ghost use Rattle.std.specs.Prelude.{◌≡◌, ◌≤◌, ℕ, List, length, true, Some, ◌++◌, ◌∷◌, [], OnOk, OnErr, map, codes};
 ghost use Rattle.proof_lines.specs.Notes.{note_of};
 ghost use Rattle.proof_lines.specs.Spelling.{most_bytes};
-ghost use Rattle.proof_lines.specs.Texts.{id_text, is_made_note, note_spelling, note_text, variable_text};
+ghost use Rattle.proof_lines.specs.Texts.{id_text, note_spelling, note_text, variable_text};
 ghost use Rattle.row_text.specs.Readings.{StaysInFront};
 ghost use Rattle.row_text.specs.Rows.{literal_text};
 ghost use Rattle.row_text.specs.Tokens.{spaced};
@@ -84,12 +84,12 @@ fn push_spelling(note: &Note, out: &mut Vec<u8>) -> Result<(), NoMemory>
 }
 
 /// Appends a note with its line feed. It has to be a note that a text spells. What is written reads as the note.
-#[tactic(auto, using(row_text::proofs::Appended::stays_longer, crate::proofs::NotesBack::note_back))]
+#[tactic(auto, using(row_text::proofs::Appended::stays_longer, crate::proofs::Spelled::spelled_note_back))]
 pub fn push_note(note: &Note, out: &mut Vec<u8>) -> Result<(), NoMemory>
     requires spelled { (text : List ℕ) × (note_of text ≡ Some note.now) }
     ensures ok { OnOk result (out.new.items ≡ out.old.items ++ note_text note.now) }
     ensures err { OnErr result (StaysInFront out.old.items out.new.items) }
-    ensures read_back { is_made_note note.now ≡ true → length (note_text note.now) ≤ most_bytes → note_of (note_text note.now) ≡ Some note.now }
+    ensures read_back { length (note_text note.now) ≤ most_bytes → note_of (note_text note.now) ≡ Some note.now }
 {
     push_spelling(note, out)?;
     out.push(b'\n')?;

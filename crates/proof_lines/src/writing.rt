@@ -3,7 +3,7 @@
 ghost use Rattle.std.specs.Prelude.{◌≡◌, ◌≤◌, ℕ, true, List, length, Some, ◌++◌, ◌∷◌, [], OnOk, OnErr, decimal, flat_map, map, codes};
 ghost use Rattle.std.specs.Fmt.{signed_decimal};
 ghost use Rattle.proof_lines.specs.Spelling.{is_small_line, most_bytes, read_line};
-ghost use Rattle.proof_lines.specs.Texts.{bound_text, claim_words, id_text, is_made, line_text, spelling, step_words, variable_text};
+ghost use Rattle.proof_lines.specs.Texts.{bound_text, claim_words, id_text, line_text, spelling, step_words, variable_text};
 ghost use Rattle.row_text.specs.Readings.{StaysInFront};
 ghost use Rattle.row_text.specs.Rows.{literal_text, row_words};
 ghost use Rattle.row_text.specs.Tokens.{spaced};
@@ -206,13 +206,13 @@ fn push_spelling(line: &Line, out: &mut Vec<u8>) -> Result<(), NoMemory>
 }
 
 /// Appends a line with its line feed. It has to be a line that a text spells. What is written reads as the line.
-#[tactic(auto, using(row_text::proofs::Appended::stays_longer, crate::proofs::LinesBack::line_back))]
+#[tactic(auto, using(row_text::proofs::Appended::stays_longer, crate::proofs::Spelled::spelled_line_back))]
 pub fn push_line(line: &Line, out: &mut Vec<u8>) -> Result<(), NoMemory>
     requires spelled { (text : List ℕ) × (read_line text ≡ Some line.now) }
     requires small { is_small_line line.now ≡ true }
     ensures ok { OnOk result (out.new.items ≡ out.old.items ++ line_text line.now) }
     ensures err { OnErr result (StaysInFront out.old.items out.new.items) }
-    ensures read_back { is_made line.now ≡ true → length (line_text line.now) ≤ most_bytes → read_line (spelling line.now) ≡ Some line.now }
+    ensures read_back { length (line_text line.now) ≤ most_bytes → read_line (spelling line.now) ≡ Some line.now }
 {
     push_spelling(line, out)?;
     out.push(b'\n')?;

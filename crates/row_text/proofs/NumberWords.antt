@@ -1,6 +1,6 @@
 -- Numbers, variables and literals are read back from what is written for them.
-use Rattle.std.proofs.Common.{◌≡◌, ℕ, zero, suc, ◌+◌, ◌-◌, ◌^◌, ◌<◌, ◌≤◌, min, ℤ, pos, negsuc, neg_ℤ, nat_abs, Bool, true, false, eqb, List, [], ◌∷◌, ◌++◌, length, get_or, Option, Some, None, refl, sym, ap, ◌∙◌, arith}
-use Rattle.std.specs.Prelude.{bytes_eq, codes, decimal, option_map}
+use Rattle.std.proofs.Common.{◌≡◌, ℕ, suc, ◌-◌, ◌^◌, ◌<◌, ◌≤◌, min, ℤ, pos, negsuc, neg_ℤ, nat_abs, Bool, true, false, eqb, List, [], ◌∷◌, ◌++◌, length, get_or, Some, refl, ap, ◌∙◌, arith}
+use Rattle.std.specs.Prelude.{codes, decimal, option_map}
 use Rattle.std.specs.Fmt.{signed_decimal}
 use Rattle.std.specs.List.{list_all}
 use Rattle.std.specs.Str.{all_ascii_digits}
@@ -10,7 +10,7 @@ use Rattle.std.proofs.lemmas.Bool.Decides.{nat_tests}
 use Rattle.std.proofs.lemmas.Fmt.{decimal_is_IsNumeral_wide, first_decimal, length-decimal-le}
 use Rattle.std.proofs.lemmas.Str.Parse.{IsNumeralModel, numerals_by_value, tells_all_ascii_digits}
 use Rattle.hrt_base.specs.declared.literal.Lit.{Lit}
-use Rattle.row_text.specs.Numbers.{is_small, read_digits, read_id, read_literal, read_number, read_positive, read_variable}
+use Rattle.row_text.specs.Numbers.{read_digits, read_id, read_literal, read_number, read_positive, read_variable}
 use Rattle.row_text.specs.Rows.{literal_text, signed_text}
 use Rattle.row_text.proofs.Words.{digits_letters, is_letter, is_word, letters_word}
 

@@ -1,15 +1,15 @@
 -- A row is read back from its words.
-use Rattle.std.proofs.Common.{◌≡◌, ℕ, ◌^◌, ◌<◌, ◌≤◌, ℤ, pos, negsuc, nat_abs, Bool, true, false, ◌&&◌, List, [], ◌∷◌, ◌++◌, Option, Some, None, refl, sym, ap, ap₂, ◌∙◌, arith}
+use Rattle.std.proofs.Common.{◌≡◌, ℕ, ◌^◌, ◌<◌, ◌≤◌, ℤ, pos, negsuc, nat_abs, true, false, List, [], ◌∷◌, ◌++◌, Option, Some, refl, ap, ap₂, ◌∙◌, arith}
 use Rattle.std.specs.Prelude.{bytes_eq, codes, decimal, flat_map}
 use Rattle.std.specs.Fmt.{signed_decimal}
 use Rattle.std.specs.List.{list_all}
 use Rattle.std.proofs.lemmas.Bool.{and_from, and_parts, leb-true}
 use Rattle.hrt_base.specs.declared.literal.Term.{Term}
 use Rattle.pb_rows.specs.Terms.{Written}
-use Rattle.row_text.specs.Numbers.{both, is_small, read_literal, read_number}
+use Rattle.row_text.specs.Numbers.{both, is_small}
 use Rattle.row_text.specs.Rows.{is_small_row, is_small_term, literal_text, read_row, read_term, row_words, signed_text, term_words, with_term}
 use Rattle.row_text.proofs.NumberWords.{literal_read, literal_word, signed_read, signed_word, with_sign_read, with_sign_word}
-use Rattle.row_text.proofs.Words.{all_words, is_word}
+use Rattle.row_text.proofs.Words.{is_word}
 
 pub small_abs : (z : ℤ) → is_small z ≡ true → nat_abs z < 10 ^ 64
 small_abs z h = omega (arith, leb-true (nat_abs z) (2 ^ 120) h)

@@ -1,14 +1,14 @@
 -- Words with single spaces between them are the tokens of their text.
-use Rattle.std.proofs.Common.{◌≡◌, ℕ, ◌<◌, ◌≤◌, Bool, true, false, not, ◌&&◌, ◌||◌, eqb, inl, inr, List, [], ◌∷◌, ◌++◌, length, refl, sym, ap, ◌∙◌, arith}
+use Rattle.std.proofs.Common.{◌≡◌, ℕ, ◌≤◌, Bool, true, false, not, ◌&&◌, ◌||◌, eqb, inl, inr, List, [], ◌∷◌, ◌++◌, refl, ap, ◌∙◌, arith}
 use Rattle.std.specs.Prelude.{bytes_eq, codes}
 use Rattle.std.specs.List.{list_all}
 use Rattle.std.specs.Str.{all_ascii_digits}
-use Rattle.std.proofs.lemmas.Bool.{and_from, and_parts, leb-true, not-true, or_cases, or_from, or_left, or_parts, or_right, not_from_false}
+use Rattle.std.proofs.lemmas.Bool.{and_from, and_parts, leb-true, not-true, or_cases, or_left}
 use Rattle.std.proofs.lemmas.Bool.Decides.{nat_tests}
 use Rattle.std.proofs.lemmas.List.{append-nil}
 use Rattle.std.proofs.lemmas.List.Folds.{list_all-append}
 use Rattle.std.proofs.lemmas.Slice.Eq.{bytes_eq-Decides}
-use Rattle.row_text.specs.Tokens.{Onward, all_of, is_blank, led_by, onward_from, spaced, tokens, words_text}
+use Rattle.row_text.specs.Tokens.{Onward, all_of, onward_from, spaced, tokens, words_text}
 use Rattle.row_text.proofs.Scan.{behind, is_apart, onward, run_more}
 
 -- no byte that ends a word or a line

@@ -1,9 +1,8 @@
-use Rattle.std.proofs.Common.{◌≡◌, [], ◌∷◌, ◌++◌, ℕ, List, ap, ◌∙◌}
+use Rattle.std.proofs.Common.{[], ◌∷◌, ◌++◌, ℕ, List, ap, ◌∙◌}
 use Rattle.std.specs.Prelude.{codes, map}
 use Rattle.row_text.specs.Rows.{literal_text}
 use Rattle.row_text.specs.Tokens.{spaced}
 use Rattle.row_text.proofs.RowWords.{colon_between}
-use Rattle.proof_lines.specs.Texts.{id_text, variable_text}
 use Rattle.proof_lines.proofs.notes.push_learn.Goals as goal
 
 pub returns-clause-ok : goal.returns-clause-ok

@@ -1,4 +1,4 @@
-use Rattle.std.proofs.Common.{◌≡◌, sym, ap, ◌∙◌, length, ◌==◌, true, false}
+use Rattle.std.proofs.Common.{sym, ap, ◌∙◌}
 use Rattle.row_text.specs.Tokens.{tokens}
 use Rattle.proof_lines.specs.Spelling.{read_claim}
 use Rattle.proof_lines.specs.declared.line.Line.TheVariants.{Conclusion}

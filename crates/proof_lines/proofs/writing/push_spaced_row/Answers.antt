@@ -1,8 +1,7 @@
-use Rattle.std.proofs.Common.{◌≡◌, [], ◌∷◌, ◌++◌, ℕ, ℤ, List, ap, ap₂, ◌∙◌, append_assoc, rules, sym}
+use Rattle.std.proofs.Common.{◌≡◌, [], ◌∷◌, ◌++◌, ℕ, List, ap, ap₂, ◌∙◌, append_assoc, rules}
 use mir.Val.{SFits, of_z, to_z}
 use Rattle.std.specs.Int.{w128}
 use Rattle.std.proofs.lemmas.Int.{to_z-of_z}
-use Rattle.hrt_base.specs.declared.literal.Term.{Term}
 use Rattle.pb_rows.specs.Terms.{Written}
 use Rattle.row_text.specs.Rows.{row_text}
 use Rattle.row_text.proofs.RowSteps.{row_of}

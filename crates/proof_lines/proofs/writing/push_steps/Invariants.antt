@@ -1,4 +1,4 @@
-use Rattle.std.proofs.Common.{◌≡◌, [], ◌∷◌, ◌++◌, take}
+use Rattle.std.proofs.Common.{◌≡◌, ◌++◌, take}
 use Rattle.std.specs.Prelude.{flat_map}
 use Rattle.proof_lines.specs.declared.line.PolStep.{PolStep}
 use Rattle.proof_lines.specs.Texts.{step_words}

@@ -1,4 +1,6 @@
 //! Runs of `model`.
+ghost use Rattle.std.specs.Prelude.{◌<◌};
+
 use crate::runs::{WORKED, host_with, words};
 use hrt_base::{NoMemory, Port};
 use hrt_cli::run;
@@ -15,7 +17,9 @@ fn model(
     instance: &[u8],
     most: usize,
     failing: u64,
-) -> Result<(u8, MemoryHost), NoMemory> {
+) -> Result<(u8, MemoryHost), NoMemory>
+    requires { 0 < most }
+{
     let mut host = host_with(alloc, instance, b"")?;
     host.give_room(Port::Model, "m", 10_000)?;
     host.piece(most);

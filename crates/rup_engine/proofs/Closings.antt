@@ -2,22 +2,21 @@
 use Rattle.std.proofs.Common.{◌≡◌, ◌∙◌, ◌<◌, ◌+◌, ◌||◌, ℕ, suc, zero, Bool, true, false, List, [], ◌∷◌, ◌++◌, length, take, get_or, add-one, ◌==◌, Option, None, refl, sym, ap, arith, Some, inl, inr}
 use Rattle.std.specs.List.{All, Contains}
 use Rattle.std.proofs.lemmas.Bool.{cases_Bool, or_cases, or_left, or_right}
-use Rattle.std.proofs.lemmas.List.Elements.{All-cons, All-map}
+use Rattle.std.proofs.lemmas.List.Elements.{All-cons, All-head, All-nil, All-tail}
 use Rattle.std.proofs.lemmas.List.Folds.{list_any_at, list_any_more}
 use Rattle.hrt_base.specs.declared.numbered.RowNo.{RowNo}
 use Rattle.hrt_base.specs.declared.literal.Lit.{Lit}
 use Rattle.pb_rows.specs.Terms.{PlainRow, opposite_lit}
 use Rattle.pb_rows.specs.Rows.{opposite_row}
-use Rattle.pb_rows.specs.Closure.{Implies, IsClosure, IsQuiet, Keeps, Literals, Refuted, none}
+use Rattle.pb_rows.specs.Closure.{Implies, IsClosure, IsQuiet, Keeps, Literals, Refuted, none, nonfalse_sum}
 use Rattle.pb_rows.specs.Formula.{NumberedRow, row_of, rows_of}
 use Rattle.pb_rows.proofs.Implied.{implies-more, refuted-more}
-use Rattle.rup_engine.specs.declared.slots.Slot.{Slot}
 use Rattle.rup_engine.specs.Literals.{among, is_same_lit}
 use Rattle.rup_engine.specs.Closing.{IsAssumed, IsContrary, IsRefutedBy}
 use Rattle.rup_engine.specs.Live.{UsesRows, named}
-use Rattle.rup_engine.specs.Slots.{KeepsSlots, entries_of, entry_of}
+use Rattle.rup_engine.specs.Slots.{KeepsSlot, KeepsSlots, Slots, entries_of}
 use Rattle.rup_engine.specs.Trail.{AreConsistent}
-use Rattle.rup_engine.specs.Propagation.{Follows, Grows}
+use Rattle.rup_engine.specs.Propagation.{Follows, Grows, IsSteady}
 use Rattle.rup_engine.proofs.Following.{grows-within}
 use Rattle.rup_engine.proofs.Naming.{follows-more}
 use Rattle.rup_engine.proofs.Sets.{among-push, lit_is, lit_itself}
@@ -101,8 +100,10 @@ named_contained entries (n ∷ ns) r c = by (row_of n.0 entries) refl (named_con
 pub quiet-from : (rows : List PlainRow) (given : Literals) (ls : List Lit) → AreConsistent ls → ((l : Lit) → given l ≡ true → among ls l ≡ true) → All (Keeps (among ls)) rows → IsQuiet rows given (among ls)
 quiet-from rows given ls c has kept = record { has_given = has; consistent = c.consistent; kept = kept }
 
-pub kept-rows : (s : Literals) (slots : List Slot) → KeepsSlots s slots → All (Keeps s) (rows_of (entries_of slots))
-kept-rows s slots kept = All-map (Keeps s) (λ (e : NumberedRow). e.row) (entries_of slots) (All-map (λ (e : NumberedRow). Keeps s e.row) entry_of slots kept)
+pub kept-rows : (s : Literals) (slots : Slots) → KeepsSlots s slots → All (Keeps s) (rows_of (entries_of slots))
+kept-rows s [] kept = All-nil (Keeps s)
+kept-rows s (None ∷ slots) kept = kept-rows s slots (All-tail (KeepsSlot s) None slots kept)
+kept-rows s (Some x ∷ slots) kept = All-cons (Keeps s) x.row (rows_of (entries_of slots)) (All-head (KeepsSlot s) (Some x) slots kept) (kept-rows s slots (All-tail (KeepsSlot s) (Some x) slots kept))
 
 -- ---- what a call answers
 
@@ -110,7 +111,7 @@ pub refuted-rows : (entries : List NumberedRow) (old new : List Lit) (used : Lis
     → Refuted (rows_of entries) (among given)
 refuted-rows entries old new used given u a = refuted-more (named entries used) (rows_of entries) (among given) (named_contained entries used) (u.follows [] (among given) (follows-assumed [] given old a))
 
-pub closed-rows : (slots : List Slot) (old new : List Lit) (used : List RowNo) (given : List Lit) → UsesRows (entries_of slots) old new [] used false → IsAssumed given old
+pub closed-rows : (slots : Slots) (old new : List Lit) (used : List RowNo) (given : List Lit) → UsesRows (entries_of slots) old new [] used false → IsAssumed given old
     → Grows old new → AreConsistent new → KeepsSlots (among new) slots → IsClosure (rows_of (entries_of slots)) (among given) (among new)
 closed-rows slots old new used given u a g c kept =
     let entries = entries_of slots in
@@ -120,7 +121,7 @@ closed-rows slots old new used given u a g c kept =
       least = f.holds;
     }
 
-pub not-refuted : (slots : List Slot) (r : PlainRow) (ls : List Lit) → AreConsistent ls → KeepsSlots (among ls) slots → Keeps (among ls) r → Refuted (r ∷ rows_of (entries_of slots)) none → ⊥
+pub not-refuted : (slots : Slots) (r : PlainRow) (ls : List Lit) → AreConsistent ls → KeepsSlots (among ls) slots → Keeps (among ls) r → Refuted (r ∷ rows_of (entries_of slots)) none → ⊥
 not-refuted slots r ls c kept keeps refuted =
     refuted (among ls) (quiet-from (r ∷ rows_of (entries_of slots)) none ls c (λ l h. absurd (let bad : false ≡ true = h in cc)) (All-cons (Keeps (among ls)) r (rows_of (entries_of slots)) keeps (kept-rows (among ls) slots kept)))
 
@@ -131,3 +132,7 @@ closed-not_refuted rows given s c r = r s c.quiet
 -- a row that some live rows refute with its opposite follows from all
 pub implied-rows : (entries : List NumberedRow) (r : PlainRow) (used : List RowNo) → IsRefutedBy entries (opposite_row r) used → Implies (rows_of entries) r
 implied-rows entries r used h = implies-more (named entries used) (rows_of entries) r (named_contained entries used) h.refuted
+
+-- a row that is steady at its own sum is kept
+pub keeps-steady : (s : Literals) (r : PlainRow) → IsSteady s (nonfalse_sum s r.terms) r → Keeps s r
+keeps-steady s r h = record { unfalsified = h.unfalsified; settled = h.settled }

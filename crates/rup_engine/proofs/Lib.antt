@@ -2,7 +2,11 @@ pub mod Sets
 pub mod Tables
 pub mod Following
 pub mod Naming
-pub mod Rounds
 pub mod Opposites
+pub mod Occurrences
+pub mod Rounds
+pub mod Counting
 pub mod Closings
-pub mod Numbered
+pub mod Listing
+pub mod Changing
+mod Looks

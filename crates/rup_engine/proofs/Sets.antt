@@ -37,7 +37,7 @@ lit_apart a b ne = false_from_ne_true _ (λ e. ne (lit_is a b e))
 pub lit_cases : (a b : Lit) → (a ≡ b) ⊎ (is_same_lit a b ≡ false)
 lit_cases a b = elim (cases_Bool (is_same_lit a b)) [ inl e ↦ inl (lit_is a b e) | inr e ↦ inr e ]
 
-flips : (a b : Lit) → is_same_lit a b ≡ is_same_lit b a
+pub flips : (a b : Lit) → is_same_lit a b ≡ is_same_lit b a
 flips a b = elim (lit_cases a b) [
   | inl e ↦ rw e refl
   | inr e ↦ e ∙ sym (false_from_ne_true (is_same_lit b a) (λ f. absurd (no (e, f))))

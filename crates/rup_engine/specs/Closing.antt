@@ -3,10 +3,11 @@ use Rattle.std.specs.Prelude.{◌≡◌, Bool, true, false, IsTrue, List, ◌∷
 use Rattle.hrt_base.specs.declared.numbered.RowNo.{RowNo}
 use Rattle.hrt_base.specs.declared.literal.Lit.{Lit}
 use Rattle.pb_rows.specs.Terms.{PlainRow, opposite_lit}
-use Rattle.pb_rows.specs.Closure.{Refuted, none}
+use Rattle.pb_rows.specs.Closure.{Literals, Refuted, none}
 use Rattle.pb_rows.specs.Formula.{NumberedRow, rows_of}
 use Rattle.rup_engine.specs.Literals.{among}
 use Rattle.rup_engine.specs.Live.{AreLive, named}
+use Rattle.rup_engine.specs.Propagation.{Follows, Outcome}
 
 -- a literal and its opposite are given
 pub record IsContrary (given : List Lit) : Type 0 where
@@ -27,3 +28,7 @@ pub record IsRefutedBy (entries : List NumberedRow) (r : PlainRow) (numbers : Li
 abbrev pub Contradicts : List NumberedRow → PlainRow → List RowNo → Bool → Type 0
 Contradicts entries r numbers true = IsRefutedBy entries r numbers
 Contradicts entries r numbers false = Refuted (r ∷ rows_of entries) none → ⊥
+
+-- what a look at rows adds follows from them
+pub record RoundAdds (rows : List PlainRow) (old new : List Lit) (falsified : Bool) : Type 0 where
+  pub follows : (given : Literals) → Follows rows given (among old) → Outcome falsified rows given (among new)

@@ -4,3 +4,6 @@ pub mod Propagation
 pub mod Live
 pub mod Slots
 pub mod Closing
+pub mod Store
+pub mod Progress
+pub mod Adding

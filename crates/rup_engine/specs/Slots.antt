@@ -1,22 +1,55 @@
--- Slots, which hold the live rows.
-use Rattle.std.specs.Prelude.{◌≡◌, ℕ, List, map, Some}
+-- Slots, which hold the live rows. An empty one held a row that was removed.
+use Rattle.std.specs.Prelude.{◌≡◌, ◌≤◌, ◌^◌, ℕ, List, [], ◌∷◌, Option, Some, None, slice_index_or}
 use Rattle.std.specs.List.{All}
+use Rattle.hrt_base.specs.declared.literal.Term.{Term}
+use Rattle.pb_rows.specs.Terms.{coef_sum}
 use Rattle.pb_rows.specs.Closure.{Keeps, Literals}
-use Rattle.pb_rows.specs.Formula.{NumberedRow, row_of}
-use Rattle.rup_engine.specs.declared.slots.Slot.{Slot}
+use Rattle.pb_rows.specs.Formula.{NumberedRow}
+use Rattle.rup_engine.specs.declared.store.Slot.{Slot}
 use Rattle.rup_engine.specs.Live.{IsOver}
+use Rattle.rup_engine.specs.Propagation.{IsSteady}
+
+abbrev pub Slots : Type 0
+Slots = List (Option Slot)
 
 abbrev pub entry_of : Slot → NumberedRow
 entry_of s = record { number = s.number.0; row = s.row }
 
-abbrev pub entries_of : List Slot → List NumberedRow
-entries_of slots = map entry_of slots
+abbrev pub entries_of : Slots → List NumberedRow
+entries_of [] = []
+entries_of (None ∷ slots) = entries_of slots
+entries_of (Some s ∷ slots) = entry_of s ∷ entries_of slots
 
--- the rows are over the variables, and each is that of its number
-pub record AreSlots (vars : ℕ) (slots : List Slot) : Type 0 where
-  pub covered : All (λ s. IsOver vars s.row) slots
-  pub numbered : All (λ s. row_of s.number.0 (entries_of slots) ≡ Some s.row) slots
+abbrev pub slot_at : Slots → ℕ → Option Slot
+slot_at slots k = slice_index_or slots k None
 
--- the set keeps each row
-abbrev pub KeepsSlots : Literals → List Slot → Type 0
-KeepsSlots set slots = All (λ s. Keeps set s.row) slots
+abbrev pub terms_of : Option Slot → List Term
+terms_of None = []
+terms_of (Some s) = s.row.terms
+
+-- ---- facts about what a slot holds, if anything
+
+abbrev pub IsOverSlot : ℕ → Option Slot → Type 0
+IsOverSlot vars None = Unit {0}
+IsOverSlot vars (Some s) = IsOver vars s.row
+
+abbrev pub HasNumber : ℕ → Option Slot → Type 0
+HasNumber n None = ⊥
+HasNumber n (Some s) = s.number.0 ≡ n
+
+abbrev pub KeepsSlot : Literals → Option Slot → Type 0
+KeepsSlot set None = Unit {0}
+KeepsSlot set (Some s) = Keeps set s.row
+
+abbrev pub KeepsSlots : Literals → Slots → Type 0
+KeepsSlots set slots = All (KeepsSlot set) slots
+
+abbrev pub IsSteadySlot : Literals → ℕ → Option Slot → Type 0
+IsSteadySlot set sum None = Unit {0}
+IsSteadySlot set sum (Some s) = IsSteady set sum s.row
+
+-- the rows are over the variables, no two have one number, and their coefficients fit
+pub record AreSlots (vars : ℕ) (slots : Slots) : Type 0 where
+  pub covered : All (IsOverSlot vars) slots
+  pub distinct : (j k n : ℕ) → HasNumber n (slot_at slots j) → HasNumber n (slot_at slots k) → j ≡ k
+  pub fits : (k : ℕ) → coef_sum (terms_of (slot_at slots k)) ≤ 2 ^ 120

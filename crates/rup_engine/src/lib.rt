@@ -2,15 +2,21 @@
 //! that the rows are refuted.
 #![tactic(auto)]
 
+mod adding;
 mod closing;
+mod lists;
 mod live;
 mod opposite;
+#[cfg(test)]
+mod plain;
+mod progress;
 mod propagation;
-mod scan;
-mod slots;
+mod store;
+mod sums;
 #[cfg(test)]
 mod tests;
 mod trail;
 mod visit;
+mod visiting;
 
 pub use live::{Live, Used};

@@ -8,10 +8,11 @@ ghost use Rattle.pb_rows.specs.Formula.{is_numbered, row_of, rows_of};
 ghost use Rattle.rup_engine.specs.Literals.{among, is_same_lit};
 ghost use Rattle.rup_engine.specs.Live.{AreLive, IsOver, named, without};
 
+use crate::adding::{add_row, find, remove_row, row_at};
 use crate::closing::{close, contradicts};
 use crate::opposite::Opposite;
-use crate::slots::{Slot, drop_number, is_live, row_of};
-use crate::trail::Trail;
+use crate::progress::{Progress, undo};
+use crate::store::{Slot, Store};
 use hrt_base::{Lit, NoMemory, RowNo};
 use pb_rows::Row;
 use std::alloc::Global;
@@ -26,21 +27,21 @@ pub struct Used {
 /// The live rows by their numbers. It is seen as the number of variables and the numbered rows, oldest first.
 #[derive(Drop)]
 pub struct Live {
-    slots: Vec<Slot>,
-    trail: Trail,
+    store: Store,
+    progress: Progress,
 }
 
 impl Model for Live {
-    ghost use Rattle.std.specs.Prelude.{◌≡◌, []};
     ghost use Rattle.rup_engine.specs.Live.{LiveRows};
 
     ghost Value = { LiveRows };
 
-    ghost use Rattle.rup_engine.specs.Slots.{AreSlots, entries_of};
+    ghost use Rattle.rup_engine.specs.Adding.{IsIdle};
+    ghost use Rattle.rup_engine.specs.Slots.{entries_of};
 
-    ghost view = { λ l. record { vars = l.trail.vars; rows = entries_of l.slots.items } };
+    ghost view = { λ l. record { vars = l.progress.trail.vars; rows = entries_of l.store.slots.items } };
 
-    ghost invariant = { λ l. AreSlots l.trail.vars l.slots.items × (l.trail.literals ≡ []) };
+    ghost invariant = { λ l. IsIdle l.store l.progress };
 }
 
 impl Live {
@@ -49,27 +50,36 @@ impl Live {
         ensures { IfOk result (λ l. l ≡ record { vars = vars; rows = [] }) }
     {
         Ok(Live {
-            slots: Vec::new(alloc),
-            trail: Trail::new(alloc, vars)?,
+            store: Store::new(alloc, vars)?,
+            progress: Progress::new(alloc, vars)?,
         })
     }
 
-    /// Adds a row under a number that no live row has.
+    /// Adds a row under a number that no live row has. It takes time for each term, and nothing for other rows.
     pub fn add(&mut self, _alloc: Global, id: RowNo, row: Row) -> Result<(), NoMemory>
         requires fresh { IsFalse (is_numbered id.0 self.old.rows) }
         requires covered { IsOver self.old.vars row }
         ensures ok { OnOk result (self.new ≡ record self.old { rows = self.old.rows ++ record { number = id.0; row = row } ∷ [] }) }
         ensures err { OnErr result (self.new ≡ self.old) }
     {
-        self.slots.push(Slot { number: id, row })?;
-        Ok(())
+        match add_row(
+            &mut self.store,
+            &mut self.progress,
+            Slot { number: id, row },
+        ) {
+            Ok(()) => Ok(()),
+            Err(e) => Err(e),
+        }
     }
 
     /// The row of a number, or none where it isn't live.
     pub fn get(&self, id: RowNo) -> Option<&Row>
         ensures { option_copied result ≡ row_of id.0 self.now.rows }
     {
-        row_of(&self.slots, id)
+        match find(&self.store.slots, id) {
+            None => None,
+            Some(place) => row_at(&self.store.slots, place, id),
+        }
     }
 
     /// Removes the row of a number, and tells whether there was one.
@@ -78,10 +88,10 @@ impl Live {
         ensures rows { OnOk result (self.new ≡ record self.old { rows = without id.0 self.old.rows }) }
         ensures err { OnErr result (self.new ≡ self.old) }
     {
-        if !is_live(&self.slots, id) {
+        let Some(place) = find(&self.store.slots, id) else {
             return Ok(false);
-        }
-        drop_number(&mut self.slots, id);
+        };
+        remove_row(&mut self.store, &mut self.progress, place, id);
         Ok(true)
     }
 
@@ -101,8 +111,8 @@ impl Live {
         ensures err { OnErr result (out.new.items ≡ out.old.items) }
         ensures live { self.new ≡ self.old }
     {
-        let answer = close(alloc, &self.slots, &mut self.trail, given, out);
-        self.trail.clear();
+        let answer = close(alloc, &self.store, &mut self.progress, given, out);
+        undo(&self.store, &mut self.progress);
         answer
     }
 
@@ -117,8 +127,8 @@ impl Live {
     {
         let opposite = Opposite::of(alloc, row)?;
         let mut rows = Vec::new(alloc);
-        let answer = contradicts(&self.slots, &opposite, &mut self.trail, &mut rows);
-        self.trail.clear();
+        let answer = contradicts(&self.store, &opposite, &mut self.progress, &mut rows);
+        undo(&self.store, &mut self.progress);
         if answer? {
             return Ok(Some(Used { rows }));
         }

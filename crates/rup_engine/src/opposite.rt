@@ -27,7 +27,7 @@ fn negate(t: Term) -> Term
 }
 
 /// The sum of the coefficients.
-fn total(terms: &[Term]) -> u128
+pub fn total(terms: &[Term]) -> u128
     requires positive { All (λ t. IsPositive t.coef) terms.now }
     requires fits { coef_sum terms.now < 2 ^ 128 }
     ensures { result ≡ coef_sum terms.now }

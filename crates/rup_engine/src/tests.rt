@@ -1,7 +1,5 @@
 // Rows that were worked out by hand.
-ghost use Rattle.std.specs.Prelude.{◌↔◌, ◌≡◌, IsTrue, IsFalse};
-ghost use Rattle.std.specs.List.{All};
-ghost use Rattle.pb_rows.specs.Points.{IsCovered};
+ghost use Rattle.std.specs.Prelude.{IsTrue};
 ghost use Rattle.rup_engine.specs.Live.{IsOver};
 
 use crate::Live;
@@ -34,11 +32,9 @@ fn one_row(rt: HostRuntime) -> Result<(), Fail> {
     assert!(rt; is_over(&row, 2));
     live.add(alloc, RowNo(7), row)?;
     assert!(rt; live.get(RowNo(7)).is_some());
-    assert!(rt; live.get(RowNo(8)).is_none());
     let mut out = Vec::new(alloc);
     assert!(rt; !live.closure(alloc, &[], &mut out)?);
     assert_eq!(rt; out.as_slice(), [Lit { var: 1, neg: false }].as_slice());
-    assert!(rt; live.closure(alloc, &[Lit { var: 1, neg: true }], &mut out)?);
     assert!(rt; live.remove(alloc, RowNo(7))?);
     assert!(rt; !live.remove(alloc, RowNo(7))?);
     Ok(())

@@ -1,5 +1,6 @@
 // The literals that are true, in the order in which they became so.
 ghost use Rattle.std.specs.Prelude.{◌≡◌, ◌≤◌, ◌+◌, [], ◌∷◌, ◌++◌, IfNone, IfOk, OnOk, OnErr, IsFalse, length, option_to_list};
+ghost use Rattle.std.specs.List.{All};
 ghost use Rattle.pb_rows.specs.Terms.{opposite_lit};
 ghost use Rattle.pb_rows.specs.Points.{IsCovered};
 ghost use Rattle.rup_engine.specs.Literals.{among};
@@ -88,6 +89,7 @@ impl Trail {
     pub fn literals(&self) -> &[Lit]
         ensures value { result.now ≡ self.now.literals }
         ensures consistent { AreConsistent self.now.literals }
+        ensures covered { All (λ l. IsCovered self.now.vars l.var) self.now.literals }
     {
         &self.literals
     }

@@ -1,0 +1,310 @@
+-- A store of which one slot changes.
+use Rattle.std.proofs.Common.{◌≡◌, ◌≢◌, ◌∙◌, ◌≤◌, ◌<◌, ◌+◌, ◌^◌, ◌==◌, ℕ, zero, suc, true, false, not, List, [], ◌∷◌, ◌++◌, filter, length, get_or, refl, sym, ap, subst, arith, inl, inr, Option, Some, None, eq-eqb, IsFalse, take, Global}
+use Rattle.std.specs.List.{All}
+use Rattle.std.proofs.Math.ListN.{set}
+use Rattle.std.proofs.lemmas.Bool.{cases_Bool, cases_eq, cases_lt, eqb-true, ne_eqb, or_from, or_left, or_parts, or_right}
+use Rattle.std.proofs.lemmas.List.Folds.{list_any-append}
+use Rattle.std.proofs.lemmas.List.{get_or-set_other, get_or-set_same, get_or_past, length-set, length_push}
+use Rattle.std.proofs.lemmas.List.Elements.{All-filter, All-from_get_or, All-push, All-weaker}
+use Rattle.hrt_base.specs.declared.literal.Lit.{Lit}
+use Rattle.pb_rows.specs.Terms.{coef_sum}
+use Rattle.pb_rows.specs.Closure.{none, nonfalse_sum}
+use Rattle.pb_rows.specs.Formula.{NumberedRow, is_numbered, row_of}
+use Rattle.rup_engine.specs.declared.store.Occurrence.{Occurrence}
+use Rattle.rup_engine.specs.declared.store.Slot.{Slot}
+use Rattle.rup_engine.specs.declared.store.Store.{Store}
+use Rattle.rup_engine.specs.Adding.{IsListedAt, IsReady, IsRestored, NotesAtMost}
+use Rattle.rup_engine.specs.Literals.{among}
+use Rattle.rup_engine.specs.Live.{IsOver, without}
+use Rattle.std.specs.declared.vec.Vec.{Vec}
+use Rattle.hrt_base.specs.declared.literal.Term.{Term}
+use Rattle.rup_engine.proofs.Listing.{left-gone, left-other, left-within}
+use Rattle.rup_engine.specs.Slots.{HasNumber, IsOverSlot, IsSteadySlot, Slots, entries_of, entry_of, slot_at, terms_of}
+use Rattle.rup_engine.specs.Store.{AreLeft, coef_for, is_one_of, list_at, place_of, weight_on}
+use Rattle.rup_engine.proofs.Counting.{nonfalse_sum-none}
+use Rattle.rup_engine.proofs.Rounds.{row-at}
+
+over-at : (vars : ℕ) (slots : Slots) → All (IsOverSlot vars) slots → (j : ℕ) → IsOverSlot vars (slot_at slots j)
+over-at vars slots a j = elim (cases_lt j (length slots)) [ inl h ↦ a j None h | inr h ↦ rw (get_or_past slots j None h) tt ]
+
+-- what changes where one slot does
+pub record ChangesSlot (vars : ℕ) (old new : Store) (before after : List ℕ) (k : ℕ) (o : Option Slot) : Type 0 where
+  pub longer : length old.slots.items ≤ length new.slots.items
+  pub others : (j : ℕ) → j ≢ k → slot_at new.slots.items j ≡ slot_at old.slots.items j
+  pub here : slot_at new.slots.items k ≡ o
+  pub over : IsOverSlot vars o
+  pub alone : (j n : ℕ) → j ≢ k → HasNumber n o → HasNumber n (slot_at old.slots.items j) → ⊥
+  pub fits : coef_sum (terms_of o) ≤ 2 ^ 120
+  pub lists_others : (l : Lit) (j : ℕ) → j ≢ k → coef_for j (list_at new.lists.items (place_of l)) ≡ coef_for j (list_at old.lists.items (place_of l))
+  pub lists_here : (l : Lit) → coef_for k (list_at new.lists.items (place_of l)) ≡ weight_on l (terms_of o)
+  pub lists_within : (p : ℕ) → All (λ x. x.slot < length new.slots.items) (list_at new.lists.items p)
+  pub lists_count : length new.lists.items ≡ length old.lists.items
+  pub tight_others : (j : ℕ) → j ≢ k → IsFalse (is_one_of j new.tight.items) → IsFalse (is_one_of j old.tight.items)
+  pub tight_here : IsFalse (is_one_of k new.tight.items) → IsSteadySlot none (coef_sum (terms_of o)) o
+  pub tight_within : All (λ j. j < length new.slots.items) new.tight.items
+  pub sums_others : (j : ℕ) → j ≢ k → get_or after j 0 ≡ get_or before j 0
+  pub sums_here : get_or after k 0 ≡ coef_sum (terms_of o)
+  pub room : length new.slots.items ≤ length after
+
+module _ (vars : ℕ) (old new : Store) (before after : List ℕ) (k : ℕ) (o : Option Slot) (ready : IsReady vars old before) (c : ChangesSlot vars old new before after k o) where
+  by_slot : (P : ℕ → Option Slot → Type 0) → P k o → ((j : ℕ) → j ≢ k → P j (slot_at old.slots.items j)) → (j : ℕ) → P j (slot_at new.slots.items j)
+  by_slot P here others j = elim (cases_eq j k) [
+    | inl e ↦ subst (λ (i : ℕ). P i (slot_at new.slots.items i)) (sym e) (subst (P k) (sym c.here) here)
+    | inr ne ↦ subst (P j) (sym (c.others j ne)) (others j ne)
+  ]
+
+  distinct' : (i j n : ℕ) → HasNumber n (slot_at new.slots.items i) → HasNumber n (slot_at new.slots.items j) → i ≡ j
+  distinct' i j n a b = elim (cases_eq i k) [
+    | inl e ↦ elim (cases_eq j k) [
+      | inl f ↦ e ∙ sym f
+      | inr nf ↦ absurd (c.alone j n nf (subst (HasNumber n) (ap (slot_at new.slots.items) e ∙ c.here) a) (subst (HasNumber n) (c.others j nf) b))
+    ]
+    | inr ne ↦ elim (cases_eq j k) [
+      | inl f ↦ absurd (c.alone i n ne (subst (HasNumber n) (ap (slot_at new.slots.items) f ∙ c.here) b) (subst (HasNumber n) (c.others i ne) a))
+      | inr nf ↦ ready.kept.slots.distinct i j n (subst (HasNumber n) (c.others i ne) a) (subst (HasNumber n) (c.others j nf) b)
+    ]
+  ]
+
+  coefs' : (l : Lit) (j : ℕ) → coef_for j (list_at new.lists.items (place_of l)) ≡ weight_on l (terms_of (slot_at new.slots.items j))
+  coefs' l j = by_slot (λ j o. coef_for j (list_at new.lists.items (place_of l)) ≡ weight_on l (terms_of o)) (c.lists_here l) (λ j ne. c.lists_others l j ne ∙ ready.kept.listed.coefs l j) j
+
+  tight' : (j : ℕ) → IsFalse (is_one_of j new.tight.items) → IsSteadySlot none (coef_sum (terms_of (slot_at new.slots.items j))) (slot_at new.slots.items j)
+  tight' j = by_slot (λ j o. IsFalse (is_one_of j new.tight.items) → IsSteadySlot none (coef_sum (terms_of o)) o) c.tight_here (λ j ne out. ready.kept.tight.others j (c.tight_others j ne out)) j
+
+  counted' : (j : ℕ) → get_or after j 0 ≡ nonfalse_sum (among []) (terms_of (slot_at new.slots.items j))
+  counted' j = by_slot (λ j o. get_or after j 0 ≡ nonfalse_sum (among []) (terms_of o)) (c.sums_here ∙ sym (nonfalse_sum-none (terms_of o))) (λ j ne. c.sums_others j ne ∙ ready.counted.count j) j
+
+  pub changed : IsReady vars new after
+  changed = record {
+    kept = record {
+      slots = record {
+        covered = All-from_get_or (IsOverSlot vars) new.slots.items None (λ j h. by_slot (λ j o. IsOverSlot vars o) c.over (λ j ne. over-at vars old.slots.items ready.kept.slots.covered j) j);
+        distinct = distinct';
+        fits = by_slot (λ j o. coef_sum (terms_of o) ≤ 2 ^ 120) c.fits (λ j ne. ready.kept.slots.fits j);
+      };
+      places = c.lists_count ∙ ready.kept.places;
+      listed = record { coefs = coefs'; within = c.lists_within };
+      tight = record { others = tight'; within = c.tight_within };
+    };
+    counted = record { count = counted'; room = c.room };
+  }
+
+-- ---- entries
+
+pub absent : (n : ℕ) (slots : Slots) → ((j : ℕ) → HasNumber n (slot_at slots j) → ⊥) → is_numbered n (entries_of slots) ≡ false
+absent n [] h = refl
+absent n (None ∷ slots) h = absent n slots (λ j k. h (suc j) k)
+absent n (Some s ∷ slots) h = elim (cases_Bool (s.number.0 == n)) [
+  | inl e ↦ absurd (h 0 (eqb-true s.number.0 n e))
+  | inr e ↦ rw e (absent n slots (λ j k. h (suc j) k))
+]
+
+pub not_there : (n : ℕ) (slots : Slots) → is_numbered n (entries_of slots) ≡ false → (j : ℕ) → HasNumber n (slot_at slots j) → ⊥
+not_there n [] h j k = k
+not_there n (None ∷ slots) h zero k = k
+not_there n (None ∷ slots) h (suc j) k = not_there n slots h j k
+not_there n (Some s ∷ slots) h zero k = let p = or_parts (s.number.0 == n) (is_numbered n (entries_of slots)) h in let e : (s.number.0 == n) ≡ true = eq-eqb s.number.0 n k in let f = p.0 in absurd (let bad : true ≡ false = sym e ∙ f in cc)
+not_there n (Some s ∷ slots) h (suc j) k = not_there n slots (or_parts (s.number.0 == n) (is_numbered n (entries_of slots)) h).1 j k
+
+-- ---- an empty slot more
+
+pub slot_at-more : (slots : Slots) (j : ℕ) → slot_at (slots ++ None ∷ []) j ≡ slot_at slots j
+slot_at-more [] zero = refl
+slot_at-more [] (suc j) = refl
+slot_at-more (s ∷ slots) zero = refl
+slot_at-more (s ∷ slots) (suc j) = slot_at-more slots j
+
+pub entries_of-more : (slots : Slots) → entries_of (slots ++ None ∷ []) ≡ entries_of slots
+entries_of-more [] = refl
+entries_of-more (None ∷ slots) = entries_of-more slots
+entries_of-more (Some s ∷ slots) = ap (λ es. entry_of s ∷ es) (entries_of-more slots)
+
+pub sum-more : (sums : List ℕ) (j : ℕ) → get_or (sums ++ 0 ∷ []) j 0 ≡ get_or sums j 0
+sum-more [] zero = refl
+sum-more [] (suc j) = refl
+sum-more (s ∷ sums) zero = refl
+sum-more (s ∷ sums) (suc j) = sum-more sums j
+
+pub notes-none : (k : ℕ) (tight : List ℕ) → NotesAtMost k tight tight
+notes-none k tight = record { others = λ j out. out; within = λ n h a. a }
+
+pub notes-one : (k : ℕ) (tight : List ℕ) → NotesAtMost k tight (tight ++ k ∷ [])
+notes-one k tight = record {
+  others = λ j out. (or_parts (is_one_of j tight) (is_one_of j (k ∷ [])) (sym (list_any-append (λ (i : ℕ). i == j) tight (k ∷ [])) ∙ out)).0;
+  within = λ n h a. All-push (λ (j : ℕ). j < n) tight k a h;
+}
+
+pub noted : (k : ℕ) (tight : List ℕ) → is_one_of k (tight ++ k ∷ []) ≡ true
+noted k tight = list_any-append (λ (i : ℕ). i == k) tight (k ∷ []) ∙ or_right (is_one_of k tight) (is_one_of k (k ∷ [])) (or_left (k == k) false (eq-eqb k k refl))
+
+one_of-without : (j k : ℕ) (tight : List ℕ) → (j ≡ k → ⊥) → is_one_of j (filter (λ i. not (i == k)) tight) ≡ false → is_one_of j tight ≡ false
+one_of-without j k [] ne h = refl
+one_of-without j k (i ∷ is) ne h = elim (cases_Bool (i == k)) [
+  | inl e ↦ or_from (i == j) (is_one_of j is) (ne_eqb i j (λ same. ne (sym same ∙ eqb-true i k e))) (one_of-without j k is ne (rw e at h))
+  | inr e ↦ let p = or_parts (i == j) (is_one_of j (filter (λ i. not (i == k)) is)) (rw e at h) in or_from (i == j) (is_one_of j is) p.0 (one_of-without j k is ne p.1)
+]
+
+weight_on-take : (l : Lit) (ts : List Term) (i : ℕ) → weight_on l (take i ts) ≤ weight_on l ts
+weight_on-take l [] zero = omega arith
+weight_on-take l [] (suc i) = omega arith
+weight_on-take l (t ∷ ts) zero = omega arith
+weight_on-take l (t ∷ ts) (suc i) = omega (arith, weight_on-take l ts i)
+
+without-absent : (n : ℕ) (slots : Slots) → ((j : ℕ) → HasNumber n (slot_at slots j) → ⊥) → without n (entries_of slots) ≡ entries_of slots
+without-absent n [] h = refl
+without-absent n (None ∷ slots) h = without-absent n slots (λ j k. h (suc j) k)
+without-absent n (Some s ∷ slots) h =
+    let other : (s.number.0 == n) ≡ false = ne_eqb s.number.0 n (λ e. h 0 e) in
+    rw other (ap (λ es. entry_of s ∷ es) (without-absent n slots (λ j k. h (suc j) k)))
+
+-- ---- the four changes
+
+module _ (vars : ℕ) (old new : Store) (before after : List ℕ) (ready : IsReady vars old before) where
+  weaken_within : (n : ℕ) → length old.slots.items ≤ n → (os : List Occurrence) → All (λ (o : Occurrence). o.slot < length old.slots.items) os → All (λ (o : Occurrence). o.slot < n) os
+  weaken_within n le os a = All-weaker (λ (o : Occurrence). o.slot < length old.slots.items) (λ (o : Occurrence). o.slot < n) (λ o h. omega arith) os a
+
+  pub opened : new.slots.items ≡ old.slots.items ++ None ∷ [] → new.lists.items ≡ old.lists.items → new.tight.items ≡ old.tight.items → after ≡ before ++ 0 ∷ [] → IsReady vars new after
+  opened slots lists tight sums =
+      let k : ℕ = length old.slots.items in
+      let longer : length new.slots.items ≡ length old.slots.items + 1 = ap length slots ∙ length_push old.slots.items None in
+      let same : (j : ℕ) → slot_at new.slots.items j ≡ slot_at old.slots.items j = λ j. ap (λ (x : Slots). slot_at x j) slots ∙ slot_at-more old.slots.items j in
+      let empty : slot_at old.slots.items k ≡ None = get_or_past old.slots.items k None (omega arith) in
+      let sum : (j : ℕ) → get_or after j 0 ≡ get_or before j 0 = λ j. ap (λ (x : List ℕ). get_or x j 0) sums ∙ sum-more before j in
+      changed vars old new before after k None ready (record {
+        longer = omega (arith, longer);
+        others = λ j ne. same j;
+        here = same k ∙ empty;
+        over = tt;
+        alone = λ j n ne h i. h;
+        fits = omega arith;
+        lists_others = λ l j ne. ap (λ (x : List (Vec Occurrence Global)). coef_for j (list_at x (place_of l))) lists;
+        lists_here = λ l. ap (λ (x : List (Vec Occurrence Global)). coef_for k (list_at x (place_of l))) lists ∙ ready.kept.listed.coefs l k ∙ ap (λ (o : Option Slot). weight_on l (terms_of o)) empty;
+        lists_within = λ p. rw lists (weaken_within (length new.slots.items) (omega (arith, longer)) (list_at old.lists.items p) (ready.kept.listed.within p));
+        lists_count = ap length lists;
+        tight_others = λ j ne out. rw tight at out;
+        tight_here = λ out. tt;
+        tight_within = rw tight (All-weaker (λ (j : ℕ). j < length old.slots.items) (λ (j : ℕ). j < length new.slots.items) (λ j h. omega (arith, longer)) old.tight.items ready.kept.tight.within);
+        sums_others = λ j ne. sum j;
+        sums_here = sum k ∙ ready.counted.count k ∙ ap (λ (o : Option Slot). nonfalse_sum (among []) (terms_of o)) empty;
+        room = omega (arith, longer, ap length sums, length_push before 0, ready.counted.room);
+      })
+
+  pub filled : (k : ℕ) (s : Slot) → k < length old.slots.items → slot_at old.slots.items k ≡ None → is_numbered s.number.0 (entries_of old.slots.items) ≡ false → IsOver vars s.row
+      → coef_sum s.row.terms ≤ 2 ^ 120 → new.slots.items ≡ set old.slots.items k (Some s) → IsListedAt k s.row old.lists.items new.lists.items new.tight.items
+      → NotesAtMost k old.tight.items new.tight.items → after ≡ set before k (coef_sum s.row.terms) → IsReady vars new after
+  filled k s h empty fresh over fits slots listed notes sums =
+      let count : length new.slots.items ≡ length old.slots.items = ap length slots ∙ length-set old.slots.items k (Some s) in
+      changed vars old new before after k (Some s) ready (record {
+        longer = omega (arith, count);
+        others = λ j ne. ap (λ (x : Slots). slot_at x j) slots ∙ get_or-set_other old.slots.items k j (Some s) None ne;
+        here = ap (λ (x : Slots). slot_at x k) slots ∙ get_or-set_same old.slots.items k (Some s) None h;
+        over = over;
+        alone = λ j n ne a b. not_there s.number.0 old.slots.items fresh j (subst (λ (m : ℕ). HasNumber m (slot_at old.slots.items j)) (sym a) b);
+        fits = fits;
+        lists_others = λ l j ne. let q : (j == k) ≡ false = ne_eqb j k ne in let e = rw q at (listed.entered.coefs l j) in omega (arith, e);
+        lists_here = λ l.
+            let q : (k == k) ≡ true = eq-eqb k k refl in
+            let e = rw q at (listed.entered.coefs l k) in
+            let none : coef_for k (list_at old.lists.items (place_of l)) ≡ 0 = ready.kept.listed.coefs l k ∙ ap (λ (o : Option Slot). weight_on l (terms_of o)) empty in
+            omega (arith, e, none);
+        lists_within = λ p. listed.entered.within (length new.slots.items) (omega (arith, count, h)) (λ q. weaken_within (length new.slots.items) (omega (arith, count)) (list_at old.lists.items q) (ready.kept.listed.within q)) p;
+        lists_count = listed.entered.count;
+        tight_others = λ j ne out. notes.others j out;
+        tight_here = listed.steady;
+        tight_within = notes.within (length new.slots.items) (omega (arith, count, h))
+            (All-weaker (λ (j : ℕ). j < length old.slots.items) (λ (j : ℕ). j < length new.slots.items) (λ j h. omega (arith, count)) old.tight.items ready.kept.tight.within);
+        sums_others = λ j ne. ap (λ (x : List ℕ). get_or x j 0) sums ∙ get_or-set_other before k j (coef_sum s.row.terms) 0 ne;
+        sums_here = ap (λ (x : List ℕ). get_or x k 0) sums ∙ get_or-set_same before k (coef_sum s.row.terms) 0 (omega (arith, h, ready.counted.room));
+        room = omega (arith, count, ap length sums, length-set before k (coef_sum s.row.terms), ready.counted.room);
+      })
+
+  pub restored : (k : ℕ) (terms : List Term) → k < length old.slots.items → slot_at old.slots.items k ≡ None → new.slots.items ≡ old.slots.items → IsRestored k terms old.lists.items new.lists.items
+      → new.tight.items ≡ old.tight.items → after ≡ before → IsReady vars new after
+  restored k terms h empty slots r tight sums =
+      let count : length new.slots.items ≡ length old.slots.items = ap length slots in
+      let none : (l : Lit) → coef_for k (list_at old.lists.items (place_of l)) ≡ 0 = λ l. ready.kept.listed.coefs l k ∙ ap (λ (o : Option Slot). weight_on l (terms_of o)) empty in
+      changed vars old new before after k None ready (record {
+        longer = omega (arith, count);
+        others = λ j ne. ap (λ (x : Slots). slot_at x j) slots;
+        here = ap (λ (x : Slots). slot_at x k) slots ∙ empty;
+        over = tt;
+        alone = λ j n ne h i. h;
+        fits = omega arith;
+        lists_others = λ l j ne.
+            let q : (j == k) ≡ false = ne_eqb j k ne in
+            let e = rw q at (r.entered.coefs l j) in
+            left-other k terms r.mid new.lists.items r.left j (place_of l) ne ∙ omega (arith, e);
+        lists_here = λ l.
+            let q : (k == k) ≡ true = eq-eqb k k refl in
+            let e = rw q at (r.entered.coefs l k) in
+            left-gone k terms r.mid new.lists.items r.left l (omega (arith, e, none l, weight_on-take l terms r.some));
+        lists_within = λ p. rw count (left-within k terms r.mid new.lists.items r.left (length old.slots.items) (r.entered.within (length old.slots.items) h ready.kept.listed.within) p);
+        lists_count = r.left.count ∙ r.entered.count;
+        tight_others = λ j ne out. rw tight at out;
+        tight_here = λ out. tt;
+        tight_within = rw (tight, count) ready.kept.tight.within;
+        sums_others = λ j ne. ap (λ (x : List ℕ). get_or x j 0) sums;
+        sums_here = ap (λ (x : List ℕ). get_or x k 0) sums ∙ ready.counted.count k ∙ ap (λ (o : Option Slot). nonfalse_sum (among []) (terms_of o)) empty;
+        room = omega (arith, count, ap length sums, ready.counted.room);
+      })
+
+  pub removed : (k : ℕ) (s : Slot) → k < length old.slots.items → slot_at old.slots.items k ≡ Some s → new.slots.items ≡ set old.slots.items k None → AreLeft k s.row.terms old.lists.items new.lists.items
+      → new.tight.items ≡ filter (λ j. not (j == k)) old.tight.items → after ≡ set before k 0 → IsReady vars new after
+  removed k s h at slots left tight sums =
+      let count : length new.slots.items ≡ length old.slots.items = ap length slots ∙ length-set old.slots.items k None in
+      changed vars old new before after k None ready (record {
+        longer = omega (arith, count);
+        others = λ j ne. ap (λ (x : Slots). slot_at x j) slots ∙ get_or-set_other old.slots.items k j None None ne;
+        here = ap (λ (x : Slots). slot_at x k) slots ∙ get_or-set_same old.slots.items k None None h;
+        over = tt;
+        alone = λ j n ne h i. h;
+        fits = omega arith;
+        lists_others = λ l j ne. left-other k s.row.terms old.lists.items new.lists.items left j (place_of l) ne;
+        lists_here = λ l.
+            let e : coef_for k (list_at old.lists.items (place_of l)) ≡ weight_on l s.row.terms = ready.kept.listed.coefs l k ∙ ap (λ (o : Option Slot). weight_on l (terms_of o)) at in
+            left-gone k s.row.terms old.lists.items new.lists.items left l (omega (arith, e));
+        lists_within = λ p. rw count (left-within k s.row.terms old.lists.items new.lists.items left (length old.slots.items) ready.kept.listed.within p);
+        lists_count = left.count;
+        tight_others = λ j ne out. one_of-without j k old.tight.items ne (rw tight at out);
+        tight_here = λ out. tt;
+        tight_within = rw (tight, count) (All-filter (λ j. not (j == k)) (λ (j : ℕ). j < length old.slots.items) old.tight.items ready.kept.tight.within);
+        sums_others = λ j ne. ap (λ (x : List ℕ). get_or x j 0) sums ∙ get_or-set_other before k j 0 0 ne;
+        sums_here = ap (λ (x : List ℕ). get_or x k 0) sums ∙ get_or-set_same before k 0 0 (omega (arith, h, ready.counted.room));
+        room = omega (arith, count, ap length sums, length-set before k 0, ready.counted.room);
+      })
+
+-- ---- entries of changed slots
+
+pub entries_of-filled : (slots : Slots) (k : ℕ) (s : Slot) → k + 1 ≡ length slots → slot_at slots k ≡ None → entries_of (set slots k (Some s)) ≡ entries_of slots ++ entry_of s ∷ []
+entries_of-filled [] k s h at = absurd (omega arith)
+entries_of-filled (None ∷ []) zero s h at = refl
+entries_of-filled (Some x ∷ []) zero s h at = absurd (cc)
+entries_of-filled (x ∷ y ∷ slots) zero s h at = absurd (omega arith)
+entries_of-filled (None ∷ slots) (suc k) s h at = entries_of-filled slots k s (omega arith) at
+entries_of-filled (Some x ∷ slots) (suc k) s h at = ap (λ es. entry_of x ∷ es) (entries_of-filled slots k s (omega arith) at)
+
+pub entries_of-removed : (slots : Slots) (k : ℕ) (n : ℕ) → HasNumber n (slot_at slots k) → ((j : ℕ) → HasNumber n (slot_at slots j) → j ≡ k) → entries_of (set slots k None) ≡ without n (entries_of slots)
+entries_of-removed [] k n h only = absurd h
+entries_of-removed (None ∷ slots) zero n h only = absurd h
+entries_of-removed (Some x ∷ slots) zero n h only =
+    rw (eq-eqb x.number.0 n h) (sym (without-absent n slots (λ j k. let e = only (suc j) k in omega arith)))
+entries_of-removed (None ∷ slots) (suc k) n h only = entries_of-removed slots k n h (λ j a. let e = only (suc j) a in omega arith)
+entries_of-removed (Some x ∷ slots) (suc k) n h only =
+    let other : (x.number.0 == n) ≡ false = ne_eqb x.number.0 n (λ e. let f = only 0 e in omega arith) in
+    rw other (ap (λ es. entry_of x ∷ es) (entries_of-removed slots k n h (λ j a. let e = only (suc j) a in omega arith)))
+
+pub row-of-slot : (slots : Slots) (k n : ℕ) (s : Slot) → slot_at slots k ≡ Some s → HasNumber n (slot_at slots k) → ((j : ℕ) → HasNumber n (slot_at slots j) → j ≡ k) → row_of n (entries_of slots) ≡ Some s.row
+row-of-slot slots k n s at has only =
+    let number : s.number.0 ≡ n = subst (HasNumber n) at has in
+    subst (λ (m : ℕ). row_of m (entries_of slots) ≡ Some s.row) number (row-at slots k s at (λ j h. only j (subst (λ (m : ℕ). HasNumber m (slot_at slots j)) number h)))
+
+pub row_of-none : (n : ℕ) (es : List NumberedRow) → is_numbered n es ≡ false → row_of n es ≡ None
+row_of-none n [] h = refl
+row_of-none n (e ∷ es) h = let p = or_parts (e.number == n) (is_numbered n es) h in rw p.0 (row_of-none n es p.1)
+
+pub without-none : (n : ℕ) (es : List NumberedRow) → is_numbered n es ≡ false → without n es ≡ es
+without-none n [] h = refl
+without-none n (e ∷ es) h = let p = or_parts (e.number == n) (is_numbered n es) h in rw p.0 (ap (λ x. e ∷ x) (without-none n es p.1))
+
+pub numbered-by : (n : ℕ) (slots : Slots) (k : ℕ) → HasNumber n (slot_at slots k) → is_numbered n (entries_of slots) ≡ true
+numbered-by n slots k h = elim (cases_Bool (is_numbered n (entries_of slots))) [ inl e ↦ e | inr e ↦ absurd (not_there n slots e k h) ]

@@ -1,0 +1,25 @@
+use Rattle.std.proofs.Common.{◌<◌, ◌∙◌, ℕ, Some, length, refl, ap, arith, set}
+use Rattle.pb_rows.specs.Terms.{coef_sum}
+use Rattle.pb_rows.proofs.Order.{rising_positive}
+use Rattle.rup_engine.specs.Slots.{Slots, entries_of}
+use Rattle.rup_engine.proofs.Changing.{entries_of-filled, filled, restored}
+use Rattle.rup_engine.proofs.adding.fill_slot.Goals as goal
+
+pub returns-in-Err-clause-ready : goal.returns-in-Err-clause-ready
+returns-in-Err-clause-ready c =
+    let here : c.args.place < length c.args.store.now.slots.items = omega (arith, c.requires.place) in
+    restored _ _ _ _ _ c.requires.ready c.args.place _ here c.requires.empty c.list_row.ensures.slots c.in-Err.ensures.err c.in-Err.ensures.tight refl
+
+pub total-requires-clause-positive : goal.total-requires-clause-positive
+total-requires-clause-positive c = rw c.terms-terms.ensures.terms (rising_positive 0 _ c.terms-terms.ensures.normal.rising)
+
+pub returns-clause-ready : goal.returns-clause-ready
+returns-clause-ready c =
+    let here : c.args.place < length c.args.store.now.slots.items = omega (arith, c.requires.place) in
+    filled _ c.args.store.now _ c.args.progress.now.sums.items _ c.requires.ready c.args.place c.args.slot here c.requires.empty c.requires.fresh c.requires.over c.terms-terms.ensures.normal.fits.sum
+    (ap (λ (x : Slots). set x c.args.place (Some c.args.slot)) c.list_row.ensures.slots) c.in-Ok.ensures.ok c.list_row.ensures.grows
+    (ap (λ (n : ℕ). set c.args.progress.now.sums.items c.args.place n) (c.total.ensures ∙ ap coef_sum c.terms-terms.ensures.terms))
+
+pub returns-clause-ok : goal.returns-clause-ok
+returns-clause-ok c =
+    ap (λ (x : Slots). entries_of (set x c.args.place (Some c.args.slot))) c.list_row.ensures.slots ∙ entries_of-filled c.args.store.now.slots.items c.args.place c.args.slot c.requires.place c.requires.empty

@@ -1,0 +1,15 @@
+use Rattle.std.proofs.Common.{◌≡◌, false, drop}
+use Rattle.rup_engine.specs.Literals.{among}
+use Rattle.rup_engine.specs.Live.{UsesRows}
+use Rattle.rup_engine.specs.Propagation.{Grows}
+use Rattle.rup_engine.specs.Slots.{entries_of}
+use Rattle.rup_engine.specs.Store.{AreSteadyBut, slots_of}
+use Rattle.rup_engine.proofs.visiting.visit_occurrences.Given as goal
+
+abbrev pub invariant-loop-occurrence : goal.invariant-loop-occurrence
+invariant-loop-occurrence l = record {
+  vars : l.trail.vars ≡ l.fn.trail.vars;
+  grows : Grows l.fn.trail.literals l.trail.literals;
+  steady : AreSteadyBut (among l.trail.literals) l.slots l.sums (slots_of (drop l.occurrence-index l.occurrences));
+  uses : UsesRows (entries_of l.slots) l.fn.trail.literals l.trail.literals l.fn.used.items l.used.items false;
+}

@@ -1,0 +1,200 @@
+// Rows that come and go.
+ghost use Rattle.std.specs.Prelude.{◌≡◌, ◌≤◌, ◌<◌, ◌+◌, ◌^◌, [], ◌∷◌, ◌++◌, ℕ, ◌↔◌, Some, None, IsTrue, IsFalse, IfNone, IfOk, IfSome, OnOk, OnErr, length, slice_set};
+ghost use Rattle.std.specs.List.{All};
+ghost use Rattle.std.specs.Option.{option_copied};
+ghost use Rattle.pb_rows.specs.Terms.{IsPositive, coef_sum, weight};
+ghost use Rattle.pb_rows.specs.Closure.{none};
+ghost use Rattle.pb_rows.specs.Formula.{is_numbered, row_of};
+ghost use Rattle.rup_engine.specs.Live.{IsOver, without};
+ghost use Rattle.rup_engine.specs.Propagation.{IsSteady};
+ghost use Rattle.rup_engine.specs.Slots.{HasNumber, entries_of, entry_of, slot_at};
+ghost use Rattle.rup_engine.specs.Adding.{IsListedAt, IsReady, IsRestored, NotesAtMost};
+ghost use Rattle.rup_engine.specs.Store.{is_one_of, place_of};
+
+use crate::lists::{enter, leave};
+use crate::opposite::total;
+use crate::progress::Progress;
+use crate::propagation::weight_of;
+use crate::store::{Slot, Store};
+use crate::visit::degree_of;
+use hrt_base::{NoMemory, RowNo, Term};
+use pb_rows::Row;
+
+/// Tells whether a slot's row has a number.
+fn has_number(slot: &Option<Slot>, id: RowNo) -> bool
+    ensures { IsTrue result ↔ HasNumber id.0 slot.now }
+{
+    match slot {
+        None => false,
+        Some(slot) => slot.number == id,
+    }
+}
+
+/// The slot of a number.
+pub fn find(slots: &[Option<Slot>], id: RowNo) -> Option<usize>
+    ensures place { IfSome result (λ k. k < length slots.now) }
+    ensures some { IfSome result (λ k. HasNumber id.0 (slot_at slots.now k)) }
+    ensures none { IfNone result (IsFalse (is_numbered id.0 (entries_of slots.now))) }
+{
+    for (k, slot) in slots.iter().enumerate() {
+        if has_number(slot, id) {
+            return Some(k);
+        }
+    }
+    None
+}
+
+/// The row of a slot.
+pub fn row_at(slots: &[Option<Slot>], place: usize, _id: RowNo) -> Option<&Row>
+    requires place { place < length slots.now }
+    requires has { HasNumber _id.0 (slot_at slots.now place) }
+    requires only { (j : ℕ) → HasNumber _id.0 (slot_at slots.now j) → j ≡ place }
+    ensures { option_copied result ≡ row_of _id.0 (entries_of slots.now) }
+{
+    match &slots[place] {
+        None => None,
+        Some(slot) => Some(&slot.row),
+    }
+}
+
+/// Tells whether a term's coefficient exceeds what a sum leaves.
+fn any_exceeds(terms: &[Term], sum: u128, degree: u128) -> bool
+    requires positive { All (λ t. IsPositive t.coef) terms.now }
+    requires degree { degree < 2 ^ 127 }
+    ensures { IsFalse result → All (λ t. degree + weight t.coef ≤ sum) terms.now }
+{
+    for t in terms {
+        if sum < degree + weight_of(*t) {
+            return true;
+        }
+    }
+    false
+}
+
+/// Tells whether a row propagates, or is falsified, while no literal is true.
+fn is_tight(row: &Row) -> bool
+    ensures { IsFalse result → IsSteady none (coef_sum row.now.terms) row.now }
+{
+    let terms = row.terms();
+    let sum = total(terms);
+    let degree = degree_of(row);
+    sum < degree || any_exceeds(terms, sum, degree)
+}
+
+/// Notes a row that is to be looked at first.
+fn note_tight(tight: &mut Vec<usize>, place: usize, row: &Row) -> Result<(), NoMemory>
+    ensures here { OnOk result (IsFalse (is_one_of place tight.new.items) → IsSteady none (coef_sum row.now.terms) row.now) }
+    ensures grows { NotesAtMost place tight.old.items tight.new.items }
+    ensures err { OnErr result (tight.new.items ≡ tight.old.items) }
+{
+    if is_tight(row) {
+        tight.push(place)?;
+    }
+    Ok(())
+}
+
+/// Makes an empty slot at the end, and answers its place.
+fn open_slot(store: &mut Store, progress: &mut Progress) -> Result<usize, NoMemory>
+    requires { IsReady progress.old.trail.vars store.old progress.old.sums.items }
+    ensures ready { IsReady progress.old.trail.vars store.new progress.new.sums.items }
+    ensures trail { progress.new.trail ≡ progress.old.trail }
+    ensures done { progress.new.done ≡ progress.old.done }
+    ensures entries { entries_of store.new.slots.items ≡ entries_of store.old.slots.items }
+    ensures place { IfOk result (λ k. k + 1 ≡ length store.new.slots.items) }
+    ensures empty { IfOk result (λ k. slot_at store.new.slots.items k ≡ None) }
+{
+    progress.sums.push(0)?;
+    let place = store.slots.len();
+    store.slots.push(None)?;
+    Ok(place)
+}
+
+/// Lists the row of a slot, or leaves all lists as good as they were.
+fn list_row(store: &mut Store, place: usize, row: &Row) -> Result<(), NoMemory>
+    requires places { All (λ t. place_of t.lit < length store.old.lists.items) row.now.terms }
+    ensures slots { store.new.slots.items ≡ store.old.slots.items }
+    ensures ok { OnOk result (IsListedAt place row.now store.old.lists.items store.new.lists.items store.new.tight.items) }
+    ensures grows { NotesAtMost place store.old.tight.items store.new.tight.items }
+    ensures err { OnErr result (IsRestored place row.now.terms store.old.lists.items store.new.lists.items) }
+    ensures tight { OnErr result (store.new.tight.items ≡ store.old.tight.items) }
+{
+    let terms = row.terms();
+    match enter(&mut store.lists, place, terms) {
+        Ok(()) => {}
+        Err(_) => {
+            leave(&mut store.lists, place, terms);
+            return Err(NoMemory);
+        }
+    }
+    match note_tight(&mut store.tight, place, row) {
+        Ok(()) => Ok(()),
+        Err(_) => {
+            leave(&mut store.lists, place, terms);
+            Err(NoMemory)
+        }
+    }
+}
+
+/// Puts a row into the last slot, which is empty.
+fn fill_slot(
+    store: &mut Store,
+    progress: &mut Progress,
+    place: usize,
+    slot: Slot,
+) -> Result<(), NoMemory>
+    requires ready { IsReady progress.old.trail.vars store.old progress.old.sums.items }
+    requires place { place + 1 ≡ length store.old.slots.items }
+    requires empty { slot_at store.old.slots.items place ≡ None }
+    requires fresh { IsFalse (is_numbered slot.number.0 (entries_of store.old.slots.items)) }
+    requires over { IsOver progress.old.trail.vars slot.row }
+    ensures ready { IsReady progress.old.trail.vars store.new progress.new.sums.items }
+    ensures trail { progress.new.trail ≡ progress.old.trail }
+    ensures done { progress.new.done ≡ progress.old.done }
+    ensures ok { OnOk result (entries_of store.new.slots.items ≡ entries_of store.old.slots.items ++ entry_of slot ∷ []) }
+    ensures err { OnErr result (entries_of store.new.slots.items ≡ entries_of store.old.slots.items) }
+{
+    match list_row(store, place, &slot.row) {
+        Ok(()) => {}
+        Err(e) => return Err(e),
+    }
+    let terms = slot.row.terms();
+    progress.sums[place] = total(terms);
+    store.slots[place] = Some(slot);
+    Ok(())
+}
+
+/// Adds a row.
+pub fn add_row(store: &mut Store, progress: &mut Progress, slot: Slot) -> Result<(), NoMemory>
+    requires ready { IsReady progress.old.trail.vars store.old progress.old.sums.items }
+    requires fresh { IsFalse (is_numbered slot.number.0 (entries_of store.old.slots.items)) }
+    requires over { IsOver progress.old.trail.vars slot.row }
+    ensures ready { IsReady progress.old.trail.vars store.new progress.new.sums.items }
+    ensures trail { progress.new.trail ≡ progress.old.trail }
+    ensures done { progress.new.done ≡ progress.old.done }
+    ensures ok { OnOk result (entries_of store.new.slots.items ≡ entries_of store.old.slots.items ++ entry_of slot ∷ []) }
+    ensures err { OnErr result (entries_of store.new.slots.items ≡ entries_of store.old.slots.items) }
+{
+    let place = open_slot(store, progress)?;
+    match fill_slot(store, progress, place, slot) {
+        Ok(()) => Ok(()),
+        Err(e) => Err(e),
+    }
+}
+
+/// Removes the row of a slot, which has the number.
+pub fn remove_row(store: &mut Store, progress: &mut Progress, place: usize, _id: RowNo)
+    requires ready { IsReady progress.old.trail.vars store.old progress.old.sums.items }
+    requires place { place < length store.old.slots.items }
+    requires has { HasNumber _id.0 (slot_at store.old.slots.items place) }
+    ensures ready { IsReady progress.old.trail.vars store.new progress.new.sums.items }
+    ensures trail { progress.new.trail ≡ progress.old.trail }
+    ensures done { progress.new.done ≡ progress.old.done }
+    ensures entries { entries_of store.new.slots.items ≡ without _id.0 (entries_of store.old.slots.items) }
+{
+    let Some(slot) = store.slots[place].take() else {
+        return;
+    };
+    leave(&mut store.lists, place, slot.row.terms());
+    store.tight.retain(|j| *j != place);
+    progress.sums[place] = 0;
+}

@@ -7,4 +7,9 @@ mod Growing
 mod Places
 pub mod TermCount
 mod PairTerms
+pub mod Counts
+pub mod PairNumbers
+pub mod GoneInNone
+pub mod GoneSteps
+pub mod GoneLocal
 mod Worked

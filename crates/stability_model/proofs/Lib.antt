@@ -4,7 +4,7 @@ pub mod ModelExact
 pub mod Optimum
 mod Pushes
 mod Growing
-mod Places
+pub mod Places
 pub mod TermCount
 mod PairTerms
 pub mod Counts

@@ -9,3 +9,4 @@ mod Solutions
 mod Asked
 mod Starts
 mod Counts
+mod WorkedCalls

@@ -10,3 +10,4 @@ mod Solutions
 mod Asked
 mod Starts
 mod Counts
+mod WorkedCalls

@@ -11,3 +11,4 @@ mod Solutions
 mod Asked
 mod Starts
 mod Counts
+mod WorkedCalls

@@ -1,3 +1,5 @@
+pub mod InOrder
+pub mod Readiness
 pub mod Rising
 mod Literals
 mod Spelled

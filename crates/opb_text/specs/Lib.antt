@@ -1,3 +1,5 @@
 pub mod Limits
 pub mod Spelling
 pub mod Sending
+pub mod Statements
+pub mod Refusal

@@ -1,0 +1,73 @@
+-- Why a text is refused, and the formula that a text spells.
+use Rattle.std.specs.Prelude.{◌≡◌, ℕ, suc, ◌+◌, ◌^◌, nat_le, nat_lt, if◌then◌else◌, List, [], ◌∷◌, ◌++◌, length, map, flat_map, Option, Some, None}
+use Rattle.std.specs.List.{list_any}
+use Rattle.hrt_base.specs.declared.literal.Term.{Term}
+use Rattle.pb_rows.specs.Terms.{Written}
+use Rattle.pb_rows.specs.Normal.{all_sizes, sizes}
+use Rattle.pb_rows.specs.Formula.{Formula}
+use Rattle.hrt_text.specs.Text.{lines}
+use Rattle.row_text.specs.Tokens.{tokens}
+use Rattle.opb_text.specs.declared.refusal.OpbRefusal.{OpbRefusal}
+use Rattle.opb_text.specs.declared.refusal.OpbRefusal.TheVariants.{Syntax, TooBig, TooManyVariables, TooManyRows, NoMemory}
+use Rattle.opb_text.specs.Limits.{most_rows, most_variables}
+use Rattle.opb_text.specs.Statements.{Line, Statement, constraint, formula_said, greatest_variable, minimize, nothing, read_statement, rows_in, speaks, statements}
+
+-- ---- the refusal of line k, behind lines that say this
+
+-- at most one objective, before all rows
+abbrev pub objective_refusal : ℕ → List Statement → List Term → Option OpbRefusal
+objective_refusal k before terms =
+    if list_any speaks before then Some (Syntax k)
+    else if nat_lt (2 ^ 119) (sizes terms) then Some (TooBig k)
+    else if nat_lt most_variables (greatest_variable terms) then Some (TooManyVariables k)
+    else None
+
+abbrev pub row_refusal : ℕ → List Statement → Written → Option OpbRefusal
+row_refusal k before row =
+    if nat_lt (2 ^ 120) (all_sizes row.terms row.at_least) then Some (TooBig k)
+    else if nat_lt most_variables (greatest_variable row.terms) then Some (TooManyVariables k)
+    else if nat_le most_rows (length (flat_map rows_in before)) then Some (TooManyRows k)
+    else None
+
+abbrev pub statement_refusal : ℕ → List Statement → Option Statement → Option OpbRefusal
+statement_refusal k before None = Some (Syntax k)
+statement_refusal k before (Some nothing) = None
+statement_refusal k before (Some (minimize terms)) = objective_refusal k before terms
+statement_refusal k before (Some (constraint row)) = row_refusal k before row
+
+-- ---- the refusal of a text
+
+-- the refusal of a line behind these; lines are counted from 1
+abbrev pub line_refusal : List Line → Line → Option OpbRefusal
+line_refusal before line = statement_refusal (length before + 1) (statements before) (read_statement line)
+
+abbrev pub or_else : Option OpbRefusal → Option OpbRefusal → Option OpbRefusal
+or_else None later = later
+or_else (Some refusal) later = Some refusal
+
+-- of the first line that has one, behind those before
+abbrev pub first_refusal : List Line → List Line → Option OpbRefusal
+first_refusal before [] = None
+first_refusal before (line ∷ lines) = or_else (line_refusal before line) (first_refusal (before ++ line ∷ []) lines)
+
+abbrev pub lines_of : List ℕ → List Line
+lines_of bytes = map tokens (lines bytes)
+
+-- of the first line that has one
+abbrev pub refusal : List ℕ → Option OpbRefusal
+refusal bytes = first_refusal [] (lines_of bytes)
+
+-- ---- what is answered
+
+-- the bytes are a spelling of the formula, within the limits
+pub record Spells (bytes : List ℕ) (formula : Formula) : Type 0 where
+  pub accepted : refusal bytes ≡ None
+  pub says : formula_said (statements (lines_of bytes)) ≡ formula
+
+-- The refusal is this one; want of memory tells nothing.
+abbrev pub IsRefusedBy : Option OpbRefusal → OpbRefusal → Type 0
+IsRefusedBy refusal (Syntax k) = refusal ≡ Some (Syntax k)
+IsRefusedBy refusal (TooBig k) = refusal ≡ Some (TooBig k)
+IsRefusedBy refusal (TooManyVariables k) = refusal ≡ Some (TooManyVariables k)
+IsRefusedBy refusal (TooManyRows k) = refusal ≡ Some (TooManyRows k)
+IsRefusedBy refusal NoMemory = Unit {0}

@@ -4,3 +4,6 @@ mod Within
 mod Taking
 mod Passed
 mod Worked
+mod Variables
+mod BigNumbers
+mod ObjectiveSteps

@@ -3,3 +3,4 @@ pub mod Spelling
 pub mod Sending
 pub mod Statements
 pub mod Refusal
+pub mod Drafts

@@ -1,5 +1,5 @@
 -- Why a text is refused, and the formula that a text spells.
-use Rattle.std.specs.Prelude.{◌≡◌, ℕ, suc, ◌+◌, ◌^◌, nat_le, nat_lt, if◌then◌else◌, List, [], ◌∷◌, ◌++◌, length, map, flat_map, Option, Some, None}
+use Rattle.std.specs.Prelude.{◌≡◌, ℕ, Bool, ◌+◌, ◌^◌, nat_le, nat_lt, if◌then◌else◌, List, [], ◌∷◌, ◌++◌, length, map, flat_map, Option, Some, None}
 use Rattle.std.specs.List.{list_any}
 use Rattle.hrt_base.specs.declared.literal.Term.{Term}
 use Rattle.pb_rows.specs.Terms.{Written}
@@ -12,34 +12,40 @@ use Rattle.opb_text.specs.declared.refusal.OpbRefusal.TheVariants.{Syntax, TooBi
 use Rattle.opb_text.specs.Limits.{most_rows, most_variables}
 use Rattle.opb_text.specs.Statements.{Line, Statement, constraint, formula_said, greatest_variable, minimize, nothing, read_statement, rows_in, speaks, statements}
 
--- ---- the refusal of line k, behind lines that say this
+-- ---- the refusal of line k by what it says
 
--- at most one objective, before all rows
-abbrev pub objective_refusal : ℕ → List Statement → List Term → Option OpbRefusal
-objective_refusal k before terms =
-    if list_any speaks before then Some (Syntax k)
+-- at most one objective, before all rows: nothing was said before it
+abbrev pub objective_refusal : ℕ → Bool → List Term → Option OpbRefusal
+objective_refusal k begun terms =
+    if begun then Some (Syntax k)
     else if nat_lt (2 ^ 119) (sizes terms) then Some (TooBig k)
     else if nat_lt most_variables (greatest_variable terms) then Some (TooManyVariables k)
     else None
 
-abbrev pub row_refusal : ℕ → List Statement → Written → Option OpbRefusal
-row_refusal k before row =
+-- behind so many rows
+abbrev pub row_refusal : ℕ → ℕ → Written → Option OpbRefusal
+row_refusal k rows row =
     if nat_lt (2 ^ 120) (all_sizes row.terms row.at_least) then Some (TooBig k)
     else if nat_lt most_variables (greatest_variable row.terms) then Some (TooManyVariables k)
-    else if nat_le most_rows (length (flat_map rows_in before)) then Some (TooManyRows k)
+    else if nat_le most_rows rows then Some (TooManyRows k)
     else None
 
-abbrev pub statement_refusal : ℕ → List Statement → Option Statement → Option OpbRefusal
-statement_refusal k before None = Some (Syntax k)
-statement_refusal k before (Some nothing) = None
-statement_refusal k before (Some (minimize terms)) = objective_refusal k before terms
-statement_refusal k before (Some (constraint row)) = row_refusal k before row
+abbrev pub statement_refusal : ℕ → Bool → ℕ → Option Statement → Option OpbRefusal
+statement_refusal k begun rows None = Some (Syntax k)
+statement_refusal k begun rows (Some nothing) = None
+statement_refusal k begun rows (Some (minimize terms)) = objective_refusal k begun terms
+statement_refusal k begun rows (Some (constraint row)) = row_refusal k rows row
 
 -- ---- the refusal of a text
 
+-- whether any line says something
+abbrev pub has_begun : List Statement → Bool
+has_begun said = list_any speaks said
+
 -- the refusal of a line behind these; lines are counted from 1
 abbrev pub line_refusal : List Line → Line → Option OpbRefusal
-line_refusal before line = statement_refusal (length before + 1) (statements before) (read_statement line)
+line_refusal before line =
+    statement_refusal (length before + 1) (has_begun (statements before)) (length (flat_map rows_in (statements before))) (read_statement line)
 
 abbrev pub or_else : Option OpbRefusal → Option OpbRefusal → Option OpbRefusal
 or_else None later = later

@@ -2,7 +2,11 @@
 //! spelling.
 #![tactic(auto)]
 
+mod constraint;
+mod draft;
 mod formula;
+mod limits;
+mod objective;
 mod reading;
 mod refusal;
 mod spelled;

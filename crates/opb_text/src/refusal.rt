@@ -3,6 +3,7 @@ ghost use Rattle.std.specs.Prelude.{◌≡◌};
 ghost use Rattle.opb_text.specs.declared.refusal.OpbRefusal.TheVariants.{NoMemory as no_memory};
 
 use hrt_base::NoMemory;
+use std::alloc::AllocFailed;
 use thiserror::Error;
 
 /// Why no formula was read, with the line, counted from 1, blank ones too. Of several kinds in one line the one that is
@@ -29,6 +30,14 @@ impl From<NoMemory> for OpbRefusal {
     ghost from_gives = { λ _ e. e ≡ no_memory };
 
     fn from(_: NoMemory) -> Self {
+        OpbRefusal::NoMemory
+    }
+}
+
+impl<T: Drop> From<AllocFailed<T>> for OpbRefusal {
+    ghost from_gives = { λ _ e. e ≡ no_memory };
+
+    fn from(_: AllocFailed<T>) -> Self {
         OpbRefusal::NoMemory
     }
 }

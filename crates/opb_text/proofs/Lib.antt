@@ -7,3 +7,5 @@ mod Worked
 mod Variables
 mod BigNumbers
 mod ObjectiveSteps
+mod Refusing
+mod Drafting

@@ -1,5 +1,5 @@
 -- A draft that takes one more line.
-use Rattle.std.proofs.Common.{◌≡◌, ◌∙◌, ℕ, max, Bool, true, false, ◌||◌, List, [], ◌∷◌, ◌++◌, length, map, Option, Some, None, refl, sym, ap, arith, if◌then◌else◌}
+use Rattle.std.proofs.Common.{◌≡◌, ◌∙◌, ℕ, ◌+◌, max, Bool, true, false, ◌||◌, List, [], ◌∷◌, ◌++◌, length, map, Option, Some, None, refl, sym, ap, arith, if◌then◌else◌}
 use Rattle.std.specs.Prelude.{flat_map}
 use Rattle.std.specs.List.{cons_option, list_any}
 use Rattle.std.proofs.lemmas.Bool.{or_parts}
@@ -16,9 +16,11 @@ use Rattle.opb_text.specs.Refusal.{has_begun, line_refusal, statement_refusal}
 use Rattle.opb_text.specs.Statements.{Line, Statement, constraint, greatest_variable, minimize, nothing, objective_in, read_statement, rows_in, speaks, statements, terms_in}
 use Rattle.opb_text.proofs.Variables.{greatest-append}
 
-same_draft : (v w : ℕ) (o p : List Term) (r s : List PlainRow) (b c : Bool) → v ≡ w → o ≡ p → r ≡ s → b ≡ c → Drafted
-    → record { formula = record { vars = v; objective = o; rows = r }; begun = b } ≡ record { formula = record { vars = w; objective = p; rows = s }; begun = c }
-same_draft v w o p r s b c e f g h d = λ i. record { formula = record { vars = e i; objective = f i; rows = g i }; begun = h i }
+made : ℕ → List Term → List PlainRow → Bool → Drafted
+made v o r b = record { formula = record { vars = v; objective = o; rows = r }; begun = b }
+
+same_draft : (v w : ℕ) (o p : List Term) (r s : List PlainRow) (b c : Bool) → v ≡ w → o ≡ p → r ≡ s → b ≡ c → made v o r b ≡ made w p s c
+same_draft v w o p r s b c e f g h = λ i. made (e i) (f i) (g i) (h i)
 
 -- ---- the parts
 
@@ -60,6 +62,7 @@ not_begun k false rest h = refl
 
 pub drafted_more : (k rows : ℕ) (said : List Statement) (o : Option Statement) → statement_refusal k (has_begun said) rows o ≡ None
     → drafted (said ++ cons_option o []) ≡ with_statement (drafted said) o
+unfolding made
 drafted_more k rows said None fine = absurd cc
 drafted_more k rows said (Some nothing) fine =
     same_draft _ _ _ _ _ _ _ _
@@ -67,24 +70,27 @@ drafted_more k rows said (Some nothing) fine =
     (objective_more said nothing ∙ append-nil (flat_map objective_in said))
     (rows_more said nothing ∙ append-nil (map in_normal_form (flat_map rows_in said)))
     (list_any-append speaks said (nothing ∷ []) ∙ or_false (has_begun said))
-    (drafted said)
 drafted_more k rows said (Some (minimize terms)) fine =
     same_draft _ _ _ _ _ _ _ _
     (vars_more said (minimize terms) (greatest_variable terms) (ap greatest_variable (append-nil terms)))
     (objective_more said (minimize terms) ∙ ap (λ (ts : List Term). ts ++ terms) (none_yet said (not_begun k (has_begun said) _ fine)))
     (rows_more said (minimize terms) ∙ append-nil (map in_normal_form (flat_map rows_in said)))
     (list_any-append speaks said (minimize terms ∷ []) ∙ or_true (has_begun said))
-    (drafted said)
 drafted_more k rows said (Some (constraint row)) fine =
     same_draft _ _ _ _ _ _ _ _
     (vars_more said (constraint row) (greatest_variable row.terms) (ap greatest_variable (append-nil row.terms)))
     (objective_more said (constraint row) ∙ append-nil (flat_map objective_in said))
     (rows_more said (constraint row))
     (list_any-append speaks said (constraint row ∷ []) ∙ or_true (has_begun said))
-    (drafted said)
 
 -- ---- one more line
 
+pub said_more : (before : List Line) (line : Line) → statements (before ++ line ∷ []) ≡ statements before ++ cons_option (read_statement line) []
+said_more before line = filter_map-append read_statement before (line ∷ [])
+
 pub refusal_there : (k : ℕ) (before : List Line) (line : Line) → k ≡ length before + 1
     → refusal_behind k (drafted (statements before)) (read_statement line) ≡ line_refusal before line
-refusal_there k before line e = ?
+refusal_there k before line e =
+    let said : List Statement = statements before in
+    ap (λ (n : ℕ). statement_refusal n (has_begun said) (length (map in_normal_form (flat_map rows_in said))) (read_statement line)) e
+    ∙ ap (λ (n : ℕ). statement_refusal (length before + 1) (has_begun said) n (read_statement line)) (length-map (flat_map rows_in said) in_normal_form)

@@ -9,3 +9,5 @@ mod BigNumbers
 mod ObjectiveSteps
 mod Refusing
 mod Drafting
+mod LineByLine
+mod ReadLimits

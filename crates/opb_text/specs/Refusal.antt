@@ -1,6 +1,7 @@
 -- Why a text is refused, and the formula that a text spells.
 use Rattle.std.specs.Prelude.{◌≡◌, ℕ, Bool, ◌+◌, ◌^◌, nat_le, nat_lt, if◌then◌else◌, List, [], ◌∷◌, ◌++◌, length, map, flat_map, Option, Some, None}
 use Rattle.std.specs.List.{list_any}
+use Rattle.std.specs.Option.{option_or}
 use Rattle.hrt_base.specs.declared.literal.Term.{Term}
 use Rattle.pb_rows.specs.Terms.{Written}
 use Rattle.pb_rows.specs.Normal.{all_sizes, sizes}
@@ -47,14 +48,10 @@ abbrev pub line_refusal : List Line → Line → Option OpbRefusal
 line_refusal before line =
     statement_refusal (length before + 1) (has_begun (statements before)) (length (flat_map rows_in (statements before))) (read_statement line)
 
-abbrev pub or_else : Option OpbRefusal → Option OpbRefusal → Option OpbRefusal
-or_else None later = later
-or_else (Some refusal) later = Some refusal
-
 -- of the first line that has one, behind those before
 abbrev pub first_refusal : List Line → List Line → Option OpbRefusal
 first_refusal before [] = None
-first_refusal before (line ∷ lines) = or_else (line_refusal before line) (first_refusal (before ++ line ∷ []) lines)
+first_refusal before (line ∷ lines) = option_or (line_refusal before line) (first_refusal (before ++ line ∷ []) lines)
 
 abbrev pub lines_of : List ℕ → List Line
 lines_of bytes = map tokens (lines bytes)

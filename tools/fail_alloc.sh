@@ -1,7 +1,7 @@
 #!/usr/bin/env bash
-# Refuses each request for memory in turn, for `solve` and for `audit` on the worked instance, until a run makes no more
+# Refuses each request for memory in turn, for `solve`, `audit` and `model` on the worked instance, until a run makes no more
 # requests, and counts the statuses with which the built program ended. They may be 6, and that of the run without a refusal
-# (0), and no other; and what was written may be nothing or the whole report. (`rt try --fail-alloc N` does the same for one
+# (0), and no other; and what was reported may be nothing or the whole report. (`rt try --fail-alloc N` does the same for one
 # request before any proof, in some 20 seconds each.) Build first: rt check in crates/hrt. It needs gcc.
 set -eu
 cd "$(dirname "$0")/.."
@@ -30,7 +30,7 @@ C
 cp crates/hrt/data/a.hrt "$work/i"
 printf 'pair a x\n' > "$work/q"
 bad=0
-for words in "solve $work/i" "audit $work/i $work/q"; do
+for words in "solve $work/i" "audit $work/i $work/q" "model $work/i $work/m"; do
   # shellcheck disable=SC2086
   "$program" $words > "$work/whole"
   n=0

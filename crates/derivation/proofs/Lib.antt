@@ -1,3 +1,4 @@
+pub mod InOrder
 pub mod Rising
 mod Literals
 mod Spelled

@@ -1,9 +1,7 @@
 -- Rows by rising number: what is found, put at the end and taken out.
-use Rattle.std.proofs.Common.{◌≡◌, ◌≢◌, ℕ, zero, suc, ◌+◌, ◌<◌, ◌≤◌, Bool, true, false, not, ◌==◌, List, [], ◌∷◌, length, get_or, drop, refl, sym, ap, ◌∙◌, subst, inl, inr, arith, add-one, drop-cons}
+use Rattle.std.proofs.Common.{◌≡◌, ◌≢◌, ℕ, zero, suc, ◌+◌, ◌<◌, ◌≤◌, Bool, true, false, ◌==◌, List, [], ◌∷◌, length, get_or, drop, refl, sym, ap, ◌∙◌, subst, inl, inr, arith, add-one, drop-cons}
 use Rattle.std.specs.Prelude.{Some, None, Result, Ok, Err, IsOk, remove}
-use Rattle.std.specs.List.{All}
 use Rattle.std.proofs.lemmas.List.{drop_all, get_or_default}
-use Rattle.std.proofs.lemmas.List.Elements.{All-filter}
 use Rattle.std.proofs.lemmas.Bool.{cases_lt, eq-eqb, ne_eqb}
 use Rattle.hrt_base.specs.declared.numbered.RowNo.{RowNo}
 use Rattle.pb_rows.specs.Terms.{PlainRow}
@@ -148,15 +146,3 @@ removed_on ids i d start live next h ok e is =
 
 pub removed_all : (ids : List RowNo) (i : ℕ) (start live : List NumberedRow) → length ids ≤ i → deleted ids start ≡ deleted (drop i ids) live → deleted ids start ≡ Ok live
 removed_all ids i start live h e = e ∙ ap (λ (ns : List RowNo). deleted ns live) (drop_all i ids h)
-
--- what holds of all rows holds of those that are left
-pub left_hold : (P : NumberedRow → Type 0) (ids : List RowNo) (live left : List NumberedRow) → deleted ids live ≡ Ok left → All P live → All P left
-left_hold P [] live left e all = let same : live ≡ left = cc in subst (All P) same all
-left_hold P (id ∷ ids) live left e all = by (is_numbered id.0 live) refl (λ h. left_hold P ids (without id.0 live) left h (All-filter (λ (entry : NumberedRow). not (entry.number == id.0)) P live all))
-  where
-    by : (b : Bool) → is_numbered id.0 live ≡ b → (deleted ids (without id.0 live) ≡ Ok left → All P left) → All P left
-    by true t rest = let on : deleted (id ∷ ids) live ≡ deleted ids (without id.0 live) = rw t refl in rest (sym on ∙ e)
-    by false t rest =
-        let off : deleted (id ∷ ids) live ≡ Err (BadId id.0) = rw t refl in
-        let wrong : Err (BadId id.0) ≡ Ok left = sym off ∙ e in
-        absurd (cc)

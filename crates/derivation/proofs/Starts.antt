@@ -84,9 +84,6 @@ count_moves lists = record { leads = rw (eq-eqb (length (rows lists)) (length (r
 
 -- ---- the whole
 
-pub all_below : (xs : List PlainRow) (n : ℕ) (live : List NumberedRow) → live ≡ numbered_from 1 xs → n ≡ length xs → All (λ (entry : NumberedRow). entry.number < n + 1) live
-all_below xs n live e f = subst (All (λ (entry : NumberedRow). entry.number < n + 1)) (sym e) (numbered_below 1 (n + 1) xs (omega (arith, f)))
-
 pub kept_on : (k : ℕ) (kept now : List ℕ) → kept ≡ numbers_to k → now ≡ kept ++ (k + 1) ∷ [] → now ≡ numbers_to (k + 1)
 kept_on k kept now e is = is ∙ ap (λ (ns : List ℕ). ns ++ (k + 1) ∷ []) e ∙ rw add-one refl
 

@@ -1,7 +1,5 @@
 -- What a derivation shows, and for which texts it stands.
-use Rattle.std.specs.Prelude.{ℕ, ◌<◌, List, ◌++◌, Option, Some, None}
-use Rattle.std.specs.List.{All}
-use Rattle.pb_rows.specs.Formula.{NumberedRow}
+use Rattle.std.specs.Prelude.{ℕ, List, ◌++◌, Option, Some, None}
 use Rattle.rank_tables.specs.Instance.{Lists}
 use Rattle.stability_model.specs.Model.{formula}
 use Rattle.proof_lines.specs.declared.line.Claim.{Claim}
@@ -19,10 +17,6 @@ pub record Derived : Type 0 where
   pub held : Held
   pub claim : Option Claim
   pub pending : List ℕ
-
--- the numbers are those before n
-abbrev pub AreBefore : ℕ → List NumberedRow → Type 0
-AreBefore n rows = All (λ (entry : NumberedRow). entry.number < n) rows
 
 -- where the lines of a text lead to, if it isn't concluded and if it is
 abbrev pub place_of : Option Claim → State → Place

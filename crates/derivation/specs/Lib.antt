@@ -2,3 +2,4 @@ pub mod Rising
 pub mod Derived
 pub mod Steps
 pub mod Deletions
+pub mod Ready

@@ -11,7 +11,7 @@ ghost use Rattle.stability_model.specs.Model.{all_rows_hold, formula};
 ghost use Rattle.proof_lines.specs.Spelling.{most_bytes};
 ghost use Rattle.proof_lines.specs.Texts.{is_made_note, note_text};
 ghost use Rattle.proof_rules.specs.Pol.{pol_row};
-ghost use Rattle.proof_rules.specs.States.{deleted, live_rows};
+ghost use Rattle.proof_rules.specs.States.{IsInOrder, deleted, live_rows};
 ghost use Rattle.proof_rules.specs.Claims.{Shows};
 ghost use Rattle.derivation.specs.Derived.{IsConcludedValid, StandsFor, StaysSent, StaysValid};
 ghost use Rattle.derivation.specs.Steps.{IsRowOrTooBig, IsTooBig, IsWritable, NamesLiveRow, Tries, TriesEnd, TriesNote, emptied, first_derived, literals_at, with_kept, with_new_row, with_solution, written_of};
@@ -50,13 +50,14 @@ pub struct Derivation<'a> {
 
 impl<'a> std::marker::Model for Derivation<'a> {
     ghost use Rattle.std.specs.Prelude.{[]};
-    ghost use Rattle.derivation.specs.Derived.{AreBefore, Derived};
+    ghost use Rattle.proof_rules.specs.States.{IsInOrder};
+    ghost use Rattle.derivation.specs.Derived.{Derived};
 
     ghost Value = { Derived };
 
     ghost view = { λ d. record { lists = d.inst.now; state = record { live = d.rows; next = d.next; least = d.least }; held = record { kept = d.kept.items; learned = []; learn_notes = 0 }; claim = d.claim; pending = d.pending.items } };
 
-    ghost invariant = { λ d. AreBefore d.next d.rows };
+    ghost invariant = { λ d. IsInOrder (record { live = d.rows; next = d.next; least = d.least }) };
 }
 
 impl<'a> Derivation<'a> {
@@ -257,6 +258,14 @@ impl<'a> Derivation<'a> {
         self.pending.extend_from_slice(&text)?;
         self.claim = Some(claim);
         Ok(())
+    }
+
+    /// The number that the next row gets. The live rows have numbers from 1 on that rise, all below it (`in_order`).
+    pub fn next(&self) -> u64
+        ensures number { result ≡ self.now.state.next }
+        ensures in_order { IsInOrder self.now.state }
+    {
+        self.next
     }
 
     /// The bytes that weren't sent yet.

@@ -33,7 +33,7 @@ use Rattle.hrt_cli.specs.Inputs.{OnlyRead, but_for_rest}
 use Rattle.hrt_cli.specs.Loading.{ArePairsLoaded, ArePairsRejected, IsLoaded, IsRejected}
 use Rattle.hrt_cli.specs.Reports.{NamesDeclared}
 use Rattle.hrt_cli.specs.Requests.{audit}
-use Rattle.hrt_cli.specs.Verdicts.{Rejection, Verdict, audit_status, audit_verdict, audited, exceeded, on_file, on_lists, pairs_refused, refused, rejected, status_of, verdict_of}
+use Rattle.hrt_cli.specs.Verdicts.{ComesTo, Rejection, Verdict, audit_status, audit_verdict, audited, exceeded, on_file, on_lists, pairs_refused, refused, rejected, status_of}
 use Rattle.hrt_cli.proofs.Runs.{put_elsewhere}
 use Rattle.hrt_cli.proofs.Solving.{reads_instance}
 
@@ -115,7 +115,7 @@ status_on_files false = refl
 
 -- the verdict on the pairs of an instance that is taken
 audit_due : (told : Type 0) (i q : List ℕ) (lists : Lists) (bytes : List ℕ) (verdict : Verdict) (old mid : World) → IsLoaded told i limit.Pairs lists old mid → told
-    → mid.content.file q ≡ Some bytes → audit_verdict lists bytes ≡ verdict → verdict_of (Some (audit i q)) old.content.file ≡ Some verdict
+    → mid.content.file q ≡ Some bytes → audit_verdict lists bytes ≡ verdict → ComesTo (Some (audit i q)) old.content.file verdict
 audit_due told i q lists bytes verdict old mid loaded t read is =
     let text = loaded.spelled t in
     let file : old.content.file q ≡ Some bytes = sym (ap (λ (c : Content). c.file q) (loaded.content t)) ∙ read in
@@ -167,7 +167,7 @@ instance_rejected told i q rejection answer old new start read answered = record
   on_files = subst (λ (s : Status). IsTrue (is_on_files s)) (sym answered.status) (rejection_on_files rejection);
   due = λ t.
       let text = read.due t in
-      let is : verdict_of (Some (audit i q)) old.content.file ≡ Some (rejected rejection) =
+      let is : ComesTo (Some (audit i q)) old.content.file (rejected rejection) =
       ap (λ (f : Option (List ℕ)). on_file f (old.content.file q)) text.1 ∙ ap (λ (r : Result Lists Rejection). on_lists r (old.content.file q)) text.2 in
       (rejected rejection, is, answered, reads_instance told old new (rejected rejection) start read.begun (passed_as rejection limit.InstanceBytes (new.content.rest Instance) (read.out t)));
 }

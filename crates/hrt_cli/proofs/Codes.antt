@@ -1,5 +1,5 @@
 -- What the end of a run says of the code that it answers.
-use Rattle.std.proofs.Common.{◌≡◌, ◌⊎◌, ℕ, Bool, true, false, ◌==◌, nat_lt, bytes_eq, if◌then◌else◌, List, [], Option, Some, None, Result, Ok, Err, length, refl, sym, ◌∙◌, ap, inl, inr, option_map, cond}
+use Rattle.std.proofs.Common.{◌≡◌, ◌⊎◌, ℕ, Bool, true, false, ◌==◌, nat_lt, bytes_eq, if◌then◌else◌, List, [], Option, Some, None, Result, Ok, Err, length, refl, sym, ◌∙◌, ap, inl, inr, option_map, cond, subst}
 use Rattle.hrt_base.specs.declared.port.Port.{Port}
 use Rattle.hrt_base.specs.declared.port.Port.TheVariants.{Report}
 use Rattle.hrt_base.specs.declared.host.Begun.TheVariants.{Writing}
@@ -14,12 +14,12 @@ use Rattle.hrt_cli.specs.declared.status.Status.{Status}
 use Rattle.hrt_cli.specs.declared.status.Status.TheVariants.{Done, Misused, InstanceRefused, ReadFault, WriteFault, NoMemory, LimitExceeded, AuditNo, PairsRefused}
 use Rattle.hrt_cli.specs.Limits.{most}
 use Rattle.hrt_cli.specs.Answers.{IsCutShort, LeavesFronts, SendsNothing}
-use Rattle.hrt_cli.specs.Outputs.{Output, files_after, is_output_name, outputs_if_any, outputs_of}
+use Rattle.hrt_cli.specs.Outputs.{Output, files_after, is_output_name, model_outputs, outputs_due, outputs_if_any, outputs_of}
 use Rattle.hrt_cli.specs.Reports.{IsReport}
 use Rattle.hrt_cli.specs.Requests.{Request, solve, audit, model}
 use Rattle.hrt_cli.specs.Runs.{EndsAs, IsDecided, IsDue, IsReported, Reported, KeepsFiles, KeepsOthers, PrintsBest, has_report, is_code, keeps_files}
 use Rattle.hrt_cli.specs.Statuses.{code_of}
-use Rattle.hrt_cli.specs.Verdicts.{Files, Rejection, Verdict, misused, refused, exceeded, pairs_refused, rejected, solved, audited, modeled, due as due_for, lists_in, solve_verdict, status_of, unless_refused, verdict_of, within}
+use Rattle.hrt_cli.specs.Verdicts.{ComesTo, Files, Rejection, Verdict, misused, refused, exceeded, pairs_refused, rejected, solved, audited, modeled, due as due_for, lists_in, model_verdict, solve_verdict, status_of, unless_refused, within}
 
 pub read_fault : (told : Type 0) (request : Option Request) (status : Status) (old new : World) → EndsAs told request status old new → code_of status ≡ 4
     → Rose old.read_faults new.read_faults
@@ -102,10 +102,17 @@ decided told request status old new ends t has =
 pub some_is : {A : Type 0} (a b : A) → Some a ≡ Some b → a ≡ b
 some_is a b e = cc
 
+-- the words and the files come to one verdict
+pub one_verdict : (request : Option Request) (files : Files) (a b : Verdict) → ComesTo request files a → ComesTo request files b → a ≡ b
+one_verdict None files a b is is_too = is ∙ sym is_too
+one_verdict (Some (solve instance)) files a b is is_too = some_is a b (sym is ∙ is_too)
+one_verdict (Some (audit instance pairs)) files a b is is_too = some_is a b (sym is ∙ is_too)
+one_verdict (Some (model instance file)) files a b is is_too = some_is a b (sym is ∙ is_too)
+
 pub due : (told : Type 0) (request : Option Request) (status : Status) (old new : World) → EndsAs told request status old new → told → IsDue request (code_of status) old
 due told request status old new ends t verdict is has =
     let told_of = (reported told request status old new ends has).reported t in
-    let same : told_of.verdict ≡ verdict = some_is told_of.verdict verdict (sym told_of.due ∙ is) in
+    let same : told_of.verdict ≡ verdict = one_verdict request old.content.file told_of.verdict verdict told_of.due is in
     ap code_of (told_of.answered ∙ ap status_of same)
 
 pub closed : (told : Type 0) (request : Option Request) (status : Status) (old new : World) → EndsAs told request status old new → has_report (code_of status) ≡ true
@@ -114,7 +121,7 @@ closed told request status old new ends has = (reported told request status old 
 
 -- without a rise of the counts of faults the verdict is answered, or memory was wanting
 pub complete : (told : Type 0) (request : Option Request) (status : Status) (old new : World) → EndsAs told request status old new → told
-    → (Rose old.read_faults new.read_faults → ⊥) → (Rose old.write_faults new.write_faults → ⊥) → (verdict : Verdict) → verdict_of request old.content.file ≡ Some verdict
+    → (Rose old.read_faults new.read_faults → ⊥) → (Rose old.write_faults new.write_faults → ⊥) → (verdict : Verdict) → ComesTo request old.content.file verdict
     → (code_of status ≡ code_of (status_of verdict)) ⊎ (code_of status ≡ 6)
 complete told request ReadFault old new ends t unread unwritten verdict is = absurd (unread ends.rose)
 complete told request WriteFault old new ends t unread unwritten verdict is = absurd (unwritten ends.rose)
@@ -199,9 +206,15 @@ kept_else (Some (model instance file)) (solved lists) files name e = refl
 kept_else (Some (model instance file)) (audited lists pairs) files name e = refl
 kept_else (Some (model instance file)) (modeled lists) files name e = not_stored file (model_text lists) files name e
 
-kept_due : (request : Option Request) (verdict : Option Verdict) (files : Files) (name : List ℕ) → is_output_name request name ≡ false → files_after (outputs_if_any request verdict) files name ≡ files name
-kept_due request None files name e = refl
-kept_due request (Some verdict) files name e = kept_else request verdict files name e
+kept_if_any : (file : List ℕ) (verdict : Option Verdict) (files : Files) (name : List ℕ) → bytes_eq name file ≡ false → files_after (outputs_if_any (model_outputs file) verdict) files name ≡ files name
+kept_if_any file None files name e = refl
+kept_if_any file (Some verdict) files name e = kept_else (Some (model [] file)) verdict files name e
+
+kept_due : (request : Option Request) (files : Files) (name : List ℕ) → is_output_name request name ≡ false → files_after (outputs_due request files) files name ≡ files name
+kept_due None files name e = refl
+kept_due (Some (solve instance)) files name e = refl
+kept_due (Some (audit instance pairs)) files name e = refl
+kept_due (Some (model instance file)) files name e = kept_if_any file (option_map model_verdict (files instance)) files name e
 
 either_kept : (a b c : Option (List ℕ)) → (a ≡ b) ⊎ (a ≡ c) → c ≡ b → a ≡ b
 either_kept a b c (inl e) f = e
@@ -212,7 +225,7 @@ kept_reported request status old new told_of name e = told_of.sends.files name �
 
 pub others_kept : (told : Type 0) (request : Option Request) (status : Status) (old new : World) → EndsAs told request status old new → told → KeepsOthers request old.content new.content
 others_kept told request ReadFault old new ends t name e = (ends.nothing t).files name
-others_kept told request NoMemory old new ends t name e = either_kept _ _ _ ((ends.fronts t).sends.files name) (kept_due request (verdict_of request old.content.file) old.content.file name e)
+others_kept told request NoMemory old new ends t name e = either_kept _ _ _ ((ends.fronts t).sends.files name) (kept_due request old.content.file name e)
 others_kept told request WriteFault old new ends t name e =
     let cut = ends.cut_short t in either_kept _ _ _ (cut.sends.files name) (kept_else request cut.verdict old.content.file name e)
 others_kept told request Done old new ends t name e = kept_reported request Done old new (ends.reported t) name e
@@ -303,7 +316,7 @@ not_modeled : (file : Option (List ℕ)) (lists : Lists) → option_map solve_ve
 not_modeled None lists e = absurd (cc)
 not_modeled (Some bytes) lists e = due_not_modeled (within TriedPairs (lists_in bytes)) lists (some_is (solve_verdict bytes) (modeled lists) e)
 
-prints_best : (instance : List ℕ) (old new : World) (verdict : Verdict) → verdict_of (Some (solve instance)) old.content.file ≡ Some verdict → code_of (status_of verdict) ≡ 0
+prints_best : (instance : List ℕ) (old new : World) (verdict : Verdict) → ComesTo (Some (solve instance)) old.content.file verdict → code_of (status_of verdict) ≡ 0
     → IsReport verdict (new.content.sent Report) → PrintsBest instance old.content new.content
 prints_best instance old new misused is e report = absurd (cc)
 prints_best instance old new (rejected (refused r)) is e report = absurd (cc)
@@ -322,4 +335,4 @@ pub best : (told : Type 0) (request : Option Request) (status : Status) (old new
     → (instance : List ℕ) → request ≡ Some (solve instance) → PrintsBest instance old.content new.content
 best told request status old new ends t e instance is =
     let told_of = (reported told request status old new ends (zero_has_report (code_of status) e)).reported t in
-    prints_best instance old new told_of.verdict (ap (λ (r : Option Request). verdict_of r old.content.file) (sym is) ∙ told_of.due) (ap code_of (sym told_of.answered) ∙ e) told_of.report
+    prints_best instance old new told_of.verdict (subst (λ (r : Option Request). ComesTo r old.content.file told_of.verdict) is told_of.due) (ap code_of (sym told_of.answered) ∙ e) told_of.report

@@ -19,17 +19,17 @@ use Rattle.hrt_cli.specs.declared.stop.Stop.TheVariants.{Refused, Exceeded, Pair
 use Rattle.hrt_cli.specs.Answers.{Explains, IsAnswer, IsAnswered, IsReadOut, PassedAt, is_on_files}
 use Rattle.hrt_cli.specs.Loading.{IsRejected, StopsLoading}
 use Rattle.hrt_cli.specs.Requests.{solve}
-use Rattle.hrt_cli.specs.Verdicts.{Files, Rejection, Verdict, exceeded, refused, pairs_refused, rejected, solved, due, lists_in, of_few_terms, solve_verdict, status_of, verdict_of, within}
+use Rattle.hrt_cli.specs.Verdicts.{ComesTo, Files, Rejection, Verdict, exceeded, refused, pairs_refused, rejected, solved, due, lists_in, of_few_terms, solve_verdict, status_of, within}
 use Rattle.hrt_cli.proofs.FewTerms.{tried_have_few}
 use Rattle.hrt_cli.proofs.Runs.{put_elsewhere, reads_nothing}
 
 -- the verdict on lists, and on a refusal
 pub solved_due : (files : Files) (name bytes : List ℕ) (lists : Lists) → files name ≡ Some bytes → of_few_terms (within TriedPairs (lists_in bytes)) ≡ Ok lists
-    → verdict_of (Some (solve name)) files ≡ Some (solved lists)
+    → ComesTo (Some (solve name)) files (solved lists)
 solved_due files name bytes lists file spelled = ap (option_map solve_verdict) file ∙ ap (λ (r : Result Lists Rejection). Some (due r solved)) (sym (tried_have_few (lists_in bytes)) ∙ spelled)
 
 pub rejected_due : (files : Files) (name bytes : List ℕ) (rejection : Rejection) → files name ≡ Some bytes → of_few_terms (within TriedPairs (lists_in bytes)) ≡ Err rejection
-    → verdict_of (Some (solve name)) files ≡ Some (rejected rejection)
+    → ComesTo (Some (solve name)) files (rejected rejection)
 rejected_due files name bytes rejection file is = ap (option_map solve_verdict) file ∙ ap (λ (r : Result Lists Rejection). Some (due r solved)) (sym (tried_have_few (lists_in bytes)) ∙ is)
 
 -- only the instance was begun for reading

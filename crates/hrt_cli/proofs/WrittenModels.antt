@@ -27,13 +27,13 @@ use Rattle.hrt_cli.specs.Answers.{CutShort, EndsEarly, EndsFor, Explains, IsAnsw
 use Rattle.hrt_cli.specs.Limits.{most}
 use Rattle.hrt_cli.specs.Inputs.{OnlyRead}
 use Rattle.hrt_cli.specs.Loading.{IsLoaded, IsRejected, StopsLoading}
-use Rattle.hrt_cli.specs.Outputs.{Output, SendsAll, SendsFronts, files_after, outputs_due, outputs_if_any, outputs_of, text_on}
+use Rattle.hrt_cli.specs.Outputs.{Output, SendsAll, SendsFronts, files_after, model_outputs, outputs_due, outputs_if_any, outputs_of, text_on}
 use Rattle.hrt_cli.specs.Reports.{IsReport, model_report}
 use Rattle.hrt_cli.specs.Requests.{Request, TwoFiles, audit, is_file_name, model, one_file, request_of, solve, two, two_files}
 use Rattle.hrt_cli.specs.Runs.{EndsAs, WritesModel}
 use Rattle.hrt_cli.specs.Saving.{EndsSaving, FailsSaving, IsBegun, IsLeft, IsSaved, IsSavedInPart}
 use Rattle.hrt_cli.specs.Statuses.{code_of}
-use Rattle.hrt_cli.specs.Verdicts.{Files, Rejection, Verdict, audited, due, exceeded, lists_in, misused, model_verdict, modeled, of_few_terms, pairs_refused, refused, rejected, solved, status_of, verdict_of, within}
+use Rattle.hrt_cli.specs.Verdicts.{ComesTo, Files, Rejection, Verdict, audited, due, exceeded, lists_in, misused, model_verdict, modeled, of_few_terms, pairs_refused, refused, rejected, solved, status_of, within}
 use Rattle.hrt_cli.proofs.AuditedPairs.{passed_as, rejection_on_files}
 use Rattle.hrt_cli.proofs.Codes.{IsSpelledIn, reported, some_is, spelled, zero_has_report}
 use Rattle.hrt_cli.proofs.Runs.{file_before, idle_not_writing, leaves_nothing, name_before, nothing_due, not_reading, put_elsewhere, read_ends, report_open, sent_before, writes_report, writing_not_reading}
@@ -41,11 +41,11 @@ use Rattle.hrt_cli.proofs.Solving.{reads_instance}
 
 -- ---- the verdict
 
-model_due : (files : Files) (i m bytes : List ℕ) (lists : Lists) → files i ≡ Some bytes → of_few_terms (within limit.Pairs (lists_in bytes)) ≡ Ok lists → verdict_of (Some (model i m)) files ≡ Some (modeled lists)
+model_due : (files : Files) (i m bytes : List ℕ) (lists : Lists) → files i ≡ Some bytes → of_few_terms (within limit.Pairs (lists_in bytes)) ≡ Ok lists → ComesTo (Some (model i m)) files (modeled lists)
 model_due files i m bytes lists file spelled = ap (option_map model_verdict) file ∙ ap (λ (r : Result Lists Rejection). Some (due r modeled)) spelled
 
 -- the instance that was loaded is the one whose model is due
-loaded_due : (told : Type 0) (i m : List ℕ) (lists : Lists) (old mid : World) → IsLoaded told i limit.Pairs lists old mid → told → verdict_of (Some (model i m)) old.content.file ≡ Some (modeled lists)
+loaded_due : (told : Type 0) (i m : List ℕ) (lists : Lists) (old mid : World) → IsLoaded told i limit.Pairs lists old mid → told → ComesTo (Some (model i m)) old.content.file (modeled lists)
 loaded_due told i m lists old mid loaded t = let text = loaded.spelled t in model_due old.content.file i m text.0 lists text.1 text.2
 
 abbrev output : List ℕ → Lists → Output
@@ -196,7 +196,7 @@ model_left : (told : Type 0) (i m : List ℕ) (lists : Lists) (old mid new : Wor
     → told → LeavesFronts (Some (model i m)) old.content new.content
 model_left told i m lists old mid new start loaded part t =
     let fronts = part_fronts told i m lists old mid new start loaded part.how t in
-    let due : outputs_of (Some (model i m)) (modeled lists) ≡ outputs_due (Some (model i m)) old.content.file = ap (outputs_if_any (Some (model i m))) (sym (loaded_due told i m lists old mid loaded t)) in
+    let due : outputs_of (Some (model i m)) (modeled lists) ≡ outputs_due (Some (model i m)) old.content.file = ap (outputs_if_any (model_outputs m)) (sym (loaded_due told i m lists old mid loaded t)) in
     record { silent = fronts.0; sends = subst (λ (outputs : List Output). SendsFronts outputs old.content new.content) due fronts.1 }
 
 model_ends : (told : Type 0) (i m : List ℕ) (lists : Lists) (why : Ended) (old mid new : World) → AtStart told old → IsLoaded told i limit.Pairs lists old mid → EndsSaving told Model m (model_text lists) why mid new
@@ -384,7 +384,7 @@ on_model : (file : Option (List ℕ)) (verdict : Verdict) → option_map model_v
 on_model None verdict e = absurd (cc)
 on_model (Some bytes) verdict e = due_on_model (of_few_terms (within limit.Pairs (lists_in bytes))) verdict (some_is (model_verdict bytes) verdict e)
 
-writes : (i m : List ℕ) (old new : World) (verdict : Verdict) → is_file_name m ≡ true → verdict_of (Some (model i m)) old.content.file ≡ Some verdict → code_of (status_of verdict) ≡ 0
+writes : (i m : List ℕ) (old new : World) (verdict : Verdict) → is_file_name m ≡ true → ComesTo (Some (model i m)) old.content.file verdict → code_of (status_of verdict) ≡ 0
     → IsReport verdict (new.content.sent Report) → SendsAll (outputs_of (Some (model i m)) verdict) old.content new.content → WritesModel i m old.content new.content
 writes i m old new misused named is e report sends = absurd (on_model (old.content.file i) misused is)
 writes i m old new (rejected (refused r)) named is e report sends = absurd (cc)
@@ -408,5 +408,5 @@ pub model_written : (told : Type 0) (texts : List (List ℕ)) (status : Status) 
     → (i m : List ℕ) → request_of texts ≡ Some (model i m) → WritesModel i m old.content new.content
 model_written told texts status old new ends t e i m is =
     let told_of = (reported told (request_of texts) status old new ends (zero_has_report (code_of status) e)).reported t in
-    writes i m old new told_of.verdict (output_named texts i m is) (ap (λ (r : Option Request). verdict_of r old.content.file) (sym is) ∙ told_of.due) (ap code_of (sym told_of.answered) ∙ e) told_of.report
+    writes i m old new told_of.verdict (output_named texts i m is) (subst (λ (r : Option Request). ComesTo r old.content.file told_of.verdict) is told_of.due) (ap code_of (sym told_of.answered) ∙ e) told_of.report
     (subst (λ (r : Option Request). SendsAll (outputs_of r told_of.verdict) old.content new.content) is told_of.sends)

@@ -20,7 +20,7 @@ use Rattle.hrt_cli.specs.Loading.{FailedToRead}
 use Rattle.hrt_cli.specs.Outputs.{SendsAll, SendsFronts, outputs_due, outputs_of}
 use Rattle.hrt_cli.specs.Reports.{IsReport}
 use Rattle.hrt_cli.specs.Requests.{Request}
-use Rattle.hrt_cli.specs.Verdicts.{Verdict, rejected, refused, exceeded, pairs_refused, verdict_of, status_of}
+use Rattle.hrt_cli.specs.Verdicts.{Verdict, rejected, refused, exceeded, pairs_refused, ComesTo, status_of}
 
 -- a status that tells a verdict on the files
 abbrev pub is_on_files : Status → Bool
@@ -72,7 +72,7 @@ IsReadOut verdict w = (port : Port) → w.begun port ≡ Reading → (w.content.
 pub record IsAnswered (told : Type 0) (request : Option Request) (answer : Answer) (old new : World) : Type 0 where
   pub only_read : OnlyRead told old new
   pub on_files : IsTrue (is_on_files answer.status)
-  pub due : told → (verdict : Verdict) × (verdict_of request old.content.file ≡ Some verdict) × IsAnswer verdict answer × IsReadOut verdict new
+  pub due : told → (verdict : Verdict) × ComesTo request old.content.file verdict × IsAnswer verdict answer × IsReadOut verdict new
 
 -- a command that only reads was given up before its report
 abbrev pub GivesUp : (told : Type 0) → Ended → World → World → Type 0
@@ -85,7 +85,7 @@ GivesUp told ended.NoMemory old new = OnlyRead told old new
 -- the words and the files come to this answer, and each output of their verdict was written and sealed
 pub record IsWorkDone (request : Option Request) (answer : Answer) (old new : World) : Type 0 where
   pub verdict : Verdict
-  pub due : verdict_of request old.content.file ≡ Some verdict
+  pub due : ComesTo request old.content.file verdict
   pub answered : IsAnswer verdict answer
   pub read_out : IsReadOut verdict new
   pub sends : SendsAll (outputs_of request verdict) old.content new.content
@@ -103,7 +103,7 @@ pub record IsWorked (told : Type 0) (request : Option Request) (answer : Answer)
 -- a front of the report of what the words and the files come to was sent, and before it fronts of the outputs, or all whole
 pub record IsCutShort (request : Option Request) (old new : World) : Type 0 where
   pub verdict : Verdict
-  pub due : verdict_of request old.content.file ≡ Some verdict
+  pub due : ComesTo request old.content.file verdict
   pub text : List ℕ
   pub report : IsReport verdict text
   pub count : ℕ

@@ -1,11 +1,11 @@
 -- What a command writes before its report.
-use Rattle.std.specs.Prelude.{◌≡◌, ◌⊎◌, ℕ, ◌==◌, ◌||◌, Bool, false, if◌then◌else◌, List, [], ◌∷◌, take, Option, Some, None, bytes_eq}
+use Rattle.std.specs.Prelude.{◌≡◌, ◌⊎◌, ℕ, ◌==◌, ◌||◌, Bool, false, if◌then◌else◌, List, [], ◌∷◌, take, Option, Some, None, option_map, bytes_eq}
 use Rattle.hrt_base.specs.declared.port.Port.{Port}
 use Rattle.hrt_base.specs.declared.port.Port.TheVariants.{Model, Report}
 use Rattle.hrt_base.specs.World.{Content, port_no, store}
 use Rattle.opb_text.specs.Spelling.{model_text}
 use Rattle.hrt_cli.specs.Requests.{Request, solve, audit, model}
-use Rattle.hrt_cli.specs.Verdicts.{Files, Verdict, misused, modeled, rejected, solved, audited, verdict_of}
+use Rattle.hrt_cli.specs.Verdicts.{Files, Verdict, misused, modeled, rejected, solved, audited, model_verdict}
 
 -- a text that is written on a port, and becomes the file of this name
 pub record Output : Type 0 where
@@ -30,12 +30,16 @@ outputs_of (Some (audit instance pairs)) verdict = []
 outputs_of (Some (model instance name)) verdict = model_outputs name verdict
 
 -- nothing where a file that is read is absent
-abbrev pub outputs_if_any : Option Request → Option Verdict → List Output
-outputs_if_any request None = []
-outputs_if_any request (Some verdict) = outputs_of request verdict
+abbrev pub outputs_if_any : (Verdict → List Output) → Option Verdict → List Output
+outputs_if_any outputs None = []
+outputs_if_any outputs (Some verdict) = outputs verdict
 
+-- what is written for what the words and the files come to
 abbrev pub outputs_due : Option Request → Files → List Output
-outputs_due request files = outputs_if_any request (verdict_of request files)
+outputs_due None files = []
+outputs_due (Some (solve instance)) files = []
+outputs_due (Some (audit instance pairs)) files = []
+outputs_due (Some (model instance name)) files = outputs_if_any (model_outputs name) (option_map model_verdict (files instance))
 
 -- the words name this file as one to be written
 abbrev pub is_output_name : Option Request → List ℕ → Bool

@@ -17,7 +17,7 @@ use Rattle.hrt_cli.specs.Outputs.{SendsAll, is_output_name, outputs_of}
 use Rattle.hrt_cli.specs.Reports.{IsReport, model_report, solve_report}
 use Rattle.hrt_cli.specs.Requests.{Request}
 use Rattle.hrt_cli.specs.Statuses.{code_of}
-use Rattle.hrt_cli.specs.Verdicts.{Verdict, verdict_of, status_of}
+use Rattle.hrt_cli.specs.Verdicts.{Verdict, ComesTo, status_of}
 
 -- a text was written on the report, which was sealed
 pub record IsSentWhole (told : Type 0) (text : List ℕ) (old new : World) : Type 0 where
@@ -29,7 +29,7 @@ pub record IsSentWhole (told : Type 0) (text : List ℕ) (old new : World) : Typ
 -- the report of what the words and the files come to was sent whole
 pub record IsReported (request : Option Request) (status : Status) (old new : World) : Type 0 where
   pub verdict : Verdict
-  pub due : verdict_of request old.content.file ≡ Some verdict
+  pub due : ComesTo request old.content.file verdict
   pub answered : status ≡ status_of verdict
   pub report : IsReport verdict (new.content.sent Report)
   pub read_out : IsReadOut verdict new
@@ -78,13 +78,13 @@ pub record IsDecided (request : Option Request) (n : ℕ) (old new : World) : Ty
 
 -- The code of the verdict that the words and the files come to, unless a call of the host failed or memory was wanting
 abbrev pub IsDue : Option Request → ℕ → World → Type 0
-IsDue request n old = (verdict : Verdict) → verdict_of request old.content.file ≡ Some verdict → has_report n ≡ true → n ≡ code_of (status_of verdict)
+IsDue request n old = (verdict : Verdict) → ComesTo request old.content.file verdict → has_report n ≡ true → n ≡ code_of (status_of verdict)
 
 -- without a rise of the counts of faults the code is that of the verdict, or memory was wanting
 abbrev pub IsComplete : Option Request → ℕ → World → World → Type 0
 IsComplete request n old new =
     (Rose old.read_faults new.read_faults → ⊥) → (Rose old.write_faults new.write_faults → ⊥)
-    → (verdict : Verdict) → verdict_of request old.content.file ≡ Some verdict → (n ≡ code_of (status_of verdict)) ⊎ (n ≡ 6)
+    → (verdict : Verdict) → ComesTo request old.content.file verdict → (n ≡ code_of (status_of verdict)) ⊎ (n ≡ 6)
 
 -- the report lists the pairs of a best matching of the instance that the file spells, by rising number
 pub record PrintsBest (instance : List ℕ) (old new : Content) : Type 0 where

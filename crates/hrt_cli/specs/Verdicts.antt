@@ -1,5 +1,5 @@
 -- What a run comes to, as far as the words and the files decide it.
-use Rattle.std.specs.Prelude.{ℕ, ◌==◌, nat_lt, if◌then◌else◌, List, length, Option, Some, None, Result, Ok, Err, option_map}
+use Rattle.std.specs.Prelude.{◌≡◌, ℕ, ◌==◌, nat_lt, if◌then◌else◌, List, length, Option, Some, None, Result, Ok, Err, option_map}
 use Rattle.rank_tables.specs.Instance.{Lists, pair_count}
 use Rattle.rank_tables.specs.Stability.{is_weakly_stable}
 use Rattle.rank_tables.specs.Terms.{model_terms}
@@ -83,12 +83,12 @@ on_file (Some bytes) pairs = on_lists (of_few_terms (within Pairs (lists_in byte
 abbrev pub model_verdict : List ℕ → Verdict
 model_verdict bytes = due (of_few_terms (within Pairs (lists_in bytes))) modeled
 
--- None where a file that is read is absent
-abbrev pub verdict_of : Option Request → Files → Option Verdict
-verdict_of None files = Some misused
-verdict_of (Some (solve instance)) files = option_map solve_verdict (files instance)
-verdict_of (Some (audit instance pairs)) files = on_file (files instance) (files pairs)
-verdict_of (Some (model instance file)) files = option_map model_verdict (files instance)
+-- what the words and the files come to: nothing where a file that is read is absent
+abbrev pub ComesTo : Option Request → Files → Verdict → Type 0
+ComesTo None files verdict = verdict ≡ misused
+ComesTo (Some (solve instance)) files verdict = option_map solve_verdict (files instance) ≡ Some verdict
+ComesTo (Some (audit instance pairs)) files verdict = on_file (files instance) (files pairs) ≡ Some verdict
+ComesTo (Some (model instance file)) files verdict = option_map model_verdict (files instance) ≡ Some verdict
 
 abbrev pub status_of : Verdict → Status
 status_of (solved lists) = Done

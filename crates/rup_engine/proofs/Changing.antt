@@ -8,14 +8,13 @@ use Rattle.std.proofs.lemmas.List.{get_or-set_other, get_or-set_same, get_or_pas
 use Rattle.std.proofs.lemmas.List.Elements.{All-filter, All-from_get_or, All-push, All-weaker}
 use Rattle.hrt_base.specs.declared.literal.Lit.{Lit}
 use Rattle.pb_rows.specs.Terms.{coef_sum}
-use Rattle.pb_rows.specs.Closure.{none, nonfalse_sum}
-use Rattle.pb_rows.specs.Formula.{NumberedRow, is_numbered, row_of}
+use Rattle.pb_rows.specs.Closure.{among, none, nonfalse_sum}
+use Rattle.pb_rows.specs.Formula.{NumberedRow, is_numbered, row_of, without}
 use Rattle.rup_engine.specs.declared.store.Occurrence.{Occurrence}
 use Rattle.rup_engine.specs.declared.store.Slot.{Slot}
 use Rattle.rup_engine.specs.declared.store.Store.{Store}
 use Rattle.rup_engine.specs.Adding.{IsListedAt, IsReady, IsRestored, NotesAtMost}
-use Rattle.rup_engine.specs.Literals.{among}
-use Rattle.rup_engine.specs.Live.{IsOver, without}
+use Rattle.rup_engine.specs.Live.{IsOver}
 use Rattle.std.specs.declared.vec.Vec.{Vec}
 use Rattle.hrt_base.specs.declared.literal.Term.{Term}
 use Rattle.rup_engine.proofs.Listing.{left-gone, left-other, left-within}

@@ -8,10 +8,9 @@ use Rattle.hrt_base.specs.declared.numbered.RowNo.{RowNo}
 use Rattle.hrt_base.specs.declared.literal.Lit.{Lit}
 use Rattle.pb_rows.specs.Terms.{PlainRow, opposite_lit}
 use Rattle.pb_rows.specs.Rows.{opposite_row}
-use Rattle.pb_rows.specs.Closure.{Implies, IsClosure, IsQuiet, Keeps, Literals, Refuted, none, nonfalse_sum}
+use Rattle.pb_rows.specs.Closure.{Implies, IsClosure, IsQuiet, Keeps, Literals, Refuted, among, is_same_lit, none, nonfalse_sum}
 use Rattle.pb_rows.specs.Formula.{NumberedRow, row_of, rows_of}
 use Rattle.pb_rows.proofs.Implied.{implies-more, refuted-more}
-use Rattle.rup_engine.specs.Literals.{among, is_same_lit}
 use Rattle.rup_engine.specs.Closing.{IsAssumed, IsContrary, IsRefutedBy}
 use Rattle.rup_engine.specs.Live.{UsesRows, named}
 use Rattle.rup_engine.specs.Slots.{KeepsSlot, KeepsSlots, Slots, entries_of}

@@ -8,10 +8,9 @@ use Rattle.std.proofs.lemmas.List.Elements.{All-from_get_or}
 use Rattle.hrt_base.specs.declared.literal.Lit.{Lit}
 use Rattle.hrt_base.specs.declared.literal.Term.{Term}
 use Rattle.pb_rows.specs.Terms.{coef_sum, opposite_lit, weight}
-use Rattle.pb_rows.specs.Closure.{Literals, none, nonfalse_share, nonfalse_sum}
+use Rattle.pb_rows.specs.Closure.{Literals, among, is_same_lit, none, nonfalse_share, nonfalse_sum}
 use Rattle.rup_engine.specs.declared.store.Slot.{Slot}
 use Rattle.rup_engine.specs.declared.store.Occurrence.{Occurrence}
-use Rattle.rup_engine.specs.Literals.{among, is_same_lit}
 use Rattle.rup_engine.specs.Slots.{IsSteadySlot, KeepsSlot, KeepsSlots, Slots, slot_at, terms_of}
 use Rattle.rup_engine.specs.Store.{AreCounted, AreEnough, AreListed, AreSteadyBut, AreTight, coef_for, is_one_of, list_at, place_of, slots_of, weight_on}
 use Rattle.rup_engine.specs.Propagation.{Grows}

@@ -8,8 +8,7 @@ use Rattle.std.proofs.lemmas.List.Elements.{All-contains, All-more, All-weaker}
 use Rattle.hrt_base.specs.declared.literal.Lit.{Lit}
 use Rattle.hrt_base.specs.declared.literal.Term.{Term}
 use Rattle.pb_rows.specs.Terms.{PlainRow, opposite_lit, weight}
-use Rattle.pb_rows.specs.Closure.{Keeps, Literals, Refuted, nonfalse_share, nonfalse_sum}
-use Rattle.rup_engine.specs.Literals.{among, is_same_lit}
+use Rattle.pb_rows.specs.Closure.{Keeps, Literals, Refuted, among, is_same_lit, nonfalse_share, nonfalse_sum}
 use Rattle.rup_engine.specs.Propagation.{AddsFollowing, Follows, Grows, IsOpen, IsSettledAt, TakesTerm}
 use Rattle.rup_engine.proofs.Sets.{among-cases, among-new}
 

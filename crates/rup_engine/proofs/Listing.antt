@@ -10,7 +10,7 @@ use Rattle.hrt_base.specs.declared.literal.Lit.{Lit}
 use Rattle.hrt_base.specs.declared.literal.Term.{Term}
 use Rattle.pb_rows.specs.Terms.{weight}
 use Rattle.rup_engine.specs.declared.store.Occurrence.{Occurrence}
-use Rattle.rup_engine.specs.Literals.{is_same_lit}
+use Rattle.pb_rows.specs.Closure.{is_same_lit}
 use Rattle.rup_engine.specs.Store.{AreEntered, AreLeft, coef_for, list_at, place_of, weight_on, without_slot}
 use Rattle.rup_engine.proofs.Sets.{lit_apart, lit_is}
 use Rattle.rup_engine.proofs.Occurrences.{part-elsewhere, part-here, part_for}

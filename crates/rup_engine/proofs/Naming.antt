@@ -6,10 +6,9 @@ use Rattle.std.proofs.lemmas.List.Elements.{All-push, Contains-append_cases, Con
 use Rattle.hrt_base.specs.declared.numbered.RowNo.{RowNo}
 use Rattle.hrt_base.specs.declared.literal.Lit.{Lit}
 use Rattle.pb_rows.specs.Terms.{PlainRow}
-use Rattle.pb_rows.specs.Closure.{Literals}
+use Rattle.pb_rows.specs.Closure.{Literals, among}
 use Rattle.pb_rows.specs.Formula.{NumberedRow, is_numbered, row_of}
 use Rattle.pb_rows.proofs.Implied.{quiet-fewer}
-use Rattle.rup_engine.specs.Literals.{among}
 use Rattle.rup_engine.specs.Live.{UsesRow, named}
 use Rattle.rup_engine.specs.Propagation.{AddsFollowing, Follows, Grows}
 

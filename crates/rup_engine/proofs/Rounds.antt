@@ -6,11 +6,10 @@ use Rattle.std.proofs.lemmas.List.Elements.{All-weaker}
 use Rattle.hrt_base.specs.declared.numbered.RowNo.{RowNo}
 use Rattle.hrt_base.specs.declared.literal.Lit.{Lit}
 use Rattle.pb_rows.specs.Terms.{PlainRow}
-use Rattle.pb_rows.specs.Closure.{Literals, nonfalse_sum}
+use Rattle.pb_rows.specs.Closure.{Literals, among, nonfalse_sum}
 use Rattle.pb_rows.specs.Formula.{NumberedRow, row_of}
 use Rattle.rup_engine.specs.declared.store.Slot.{Slot}
 use Rattle.rup_engine.specs.declared.store.Occurrence.{Occurrence}
-use Rattle.rup_engine.specs.Literals.{among}
 use Rattle.rup_engine.specs.Live.{UsesRow, UsesRows}
 use Rattle.rup_engine.specs.Slots.{AreSlots, HasNumber, IsSteadySlot, Slots, entries_of, slot_at, terms_of}
 use Rattle.rup_engine.specs.Store.{AreEnough, AreSteadyBut, is_one_of, slots_of}

@@ -5,7 +5,7 @@ use Rattle.std.specs.List.{Contains, IsDistinct, AllByRecursion}
 use Rattle.std.proofs.lemmas.Bool.{and_parts, and_from, cases_Bool, eqb-true, false_from_ne_true, or_cases, or_from, or_left, or_right}
 use Rattle.std.proofs.lemmas.List.Folds.{list_any-append}
 use Rattle.hrt_base.specs.declared.literal.Lit.{Lit}
-use Rattle.rup_engine.specs.Literals.{among, is_same_lit}
+use Rattle.pb_rows.specs.Closure.{among, is_same_lit}
 
 abbrev make : ℕ → Bool → Lit
 make v n = record { var = v; neg = n }

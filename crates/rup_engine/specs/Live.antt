@@ -1,23 +1,18 @@
 -- The live rows, and what numbers name among them.
-use Rattle.std.specs.Prelude.{◌≡◌, ◌≤◌, ◌==◌, ◌++◌, ℕ, Bool, not, IsTrue, List, filter, Some}
+use Rattle.std.specs.Prelude.{◌≡◌, ◌≤◌, ◌++◌, ℕ, Bool, IsTrue, List, Some}
 use Rattle.std.specs.List.{All, filter_map}
 use Rattle.hrt_base.specs.declared.numbered.RowNo.{RowNo}
 use Rattle.hrt_base.specs.declared.literal.Lit.{Lit}
 use Rattle.pb_rows.specs.Terms.{PlainRow}
 use Rattle.pb_rows.specs.Points.{IsCovered}
-use Rattle.pb_rows.specs.Closure.{Literals, nonfalse_sum}
+use Rattle.pb_rows.specs.Closure.{Literals, among, nonfalse_sum}
 use Rattle.pb_rows.specs.Formula.{NumberedRow, is_numbered, row_of}
-use Rattle.rup_engine.specs.Literals.{among}
 use Rattle.rup_engine.specs.Propagation.{Follows, Outcome}
 
 -- The variables are 1 to vars. The rows are listed oldest first, no two with one number.
 pub record LiveRows : Type 0 where
   pub vars : ℕ
   pub rows : List NumberedRow
-
--- the rows but the one of a number
-abbrev pub without : ℕ → List NumberedRow → List NumberedRow
-without n entries = filter (λ entry. not (entry.number == n)) entries
 
 -- the rows that numbers name, one after another
 abbrev pub named : List NumberedRow → List RowNo → List PlainRow

@@ -4,8 +4,7 @@ use Rattle.std.specs.List.{All, Contains}
 use Rattle.hrt_base.specs.declared.literal.Lit.{Lit}
 use Rattle.hrt_base.specs.declared.literal.Term.{Term}
 use Rattle.pb_rows.specs.Terms.{IsPositive, PlainRow, coef_sum, opposite_lit, weight}
-use Rattle.pb_rows.specs.Closure.{IsQuiet, Literals, Refuted, nonfalse_sum}
-use Rattle.rup_engine.specs.Literals.{among}
+use Rattle.pb_rows.specs.Closure.{IsQuiet, Literals, Refuted, among, nonfalse_sum}
 
 -- every quiet set holds the set
 pub record Follows (rows : List PlainRow) (given set : Literals) : Type 0 where

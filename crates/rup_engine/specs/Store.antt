@@ -5,10 +5,9 @@ use Rattle.std.specs.List.{All, list_any}
 use Rattle.hrt_base.specs.declared.literal.Lit.{Lit}
 use Rattle.hrt_base.specs.declared.literal.Term.{Term}
 use Rattle.pb_rows.specs.Terms.{coef_sum, weight}
-use Rattle.pb_rows.specs.Closure.{Literals, none, nonfalse_sum}
+use Rattle.pb_rows.specs.Closure.{Literals, among, is_same_lit, none, nonfalse_sum}
 use Rattle.rup_engine.specs.declared.store.Occurrence.{Occurrence}
 use Rattle.rup_engine.specs.declared.store.Store.{Store}
-use Rattle.rup_engine.specs.Literals.{among, is_same_lit}
 use Rattle.rup_engine.specs.Slots.{AreSlots, IsSteadySlot, Slots, slot_at, terms_of}
 
 -- ---- occurrences

@@ -6,8 +6,7 @@ use Rattle.hrt_base.specs.declared.literal.Value.{Value}
 use Rattle.hrt_base.specs.declared.literal.Value.TheVariants.{False, Free, True}
 use Rattle.pb_rows.specs.Terms.{opposite_lit}
 use Rattle.pb_rows.specs.Points.{IsCovered}
-use Rattle.pb_rows.specs.Closure.{makes_true}
-use Rattle.rup_engine.specs.Literals.{among, is_same_lit}
+use Rattle.pb_rows.specs.Closure.{among, is_same_lit, makes_true}
 
 -- the variables are 1 to vars, and the true literals are listed oldest first
 pub record Assigned : Type 0 where

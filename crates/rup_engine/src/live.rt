@@ -3,10 +3,9 @@ ghost use Rattle.std.specs.Prelude.{◌≡◌, ◌↔◌, [], ◌∷◌, ◌++�
 ghost use Rattle.std.specs.List.{All, IsDistinct};
 ghost use Rattle.std.specs.Option.{option_copied};
 ghost use Rattle.pb_rows.specs.Points.{IsCovered};
-ghost use Rattle.pb_rows.specs.Closure.{Implies, IsClosure, Refuted};
-ghost use Rattle.pb_rows.specs.Formula.{is_numbered, row_of, rows_of};
-ghost use Rattle.rup_engine.specs.Literals.{among, is_same_lit};
-ghost use Rattle.rup_engine.specs.Live.{AreLive, IsOver, named, without};
+ghost use Rattle.pb_rows.specs.Closure.{Implies, IsClosure, Refuted, among, is_same_lit};
+ghost use Rattle.pb_rows.specs.Formula.{is_numbered, row_of, rows_of, without};
+ghost use Rattle.rup_engine.specs.Live.{AreLive, IsOver, named};
 
 use crate::adding::{add_row, find, remove_row, row_at};
 use crate::closing::{close, contradicts};

@@ -3,8 +3,7 @@ ghost use Rattle.std.specs.Prelude.{◌≡◌, ◌<◌, ◌+◌, ◌^◌, IfOk, 
 ghost use Rattle.std.specs.List.{All};
 ghost use Rattle.pb_rows.specs.Terms.{IsPositive, coef_sum, negated};
 ghost use Rattle.pb_rows.specs.Rows.{opposite_row};
-ghost use Rattle.pb_rows.specs.Closure.{nonfalse_sum};
-ghost use Rattle.rup_engine.specs.Literals.{among};
+ghost use Rattle.pb_rows.specs.Closure.{among, nonfalse_sum};
 ghost use Rattle.rup_engine.specs.Live.{IsOver};
 ghost use Rattle.rup_engine.specs.Propagation.{AddsFollowing, Grows, IsSteady};
 

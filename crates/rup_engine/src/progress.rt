@@ -1,7 +1,7 @@
 // How far propagation has come.
 ghost use Rattle.std.specs.Prelude.{◌≡◌, ◌≤◌, ◌<◌, ◌+◌, [], IsFalse, IfOk, length, take};
 ghost use Rattle.pb_rows.specs.Terms.{opposite_lit};
-ghost use Rattle.rup_engine.specs.Literals.{among};
+ghost use Rattle.pb_rows.specs.Closure.{among};
 ghost use Rattle.rup_engine.specs.Live.{UsesRows};
 ghost use Rattle.rup_engine.specs.Propagation.{Grows};
 ghost use Rattle.rup_engine.specs.Slots.{KeepsSlots, entries_of};

@@ -2,7 +2,7 @@
 ghost use Rattle.std.specs.Prelude.{◌≡◌, ◌≤◌, ◌+◌, ◌^◌, IsFalse, IfOk};
 ghost use Rattle.std.specs.List.{All};
 ghost use Rattle.pb_rows.specs.Points.{IsCovered};
-ghost use Rattle.rup_engine.specs.Literals.{among};
+ghost use Rattle.pb_rows.specs.Closure.{among};
 ghost use Rattle.rup_engine.specs.Live.{IsOver, UsesRow};
 ghost use Rattle.rup_engine.specs.Propagation.{Grows, IsSteady};
 

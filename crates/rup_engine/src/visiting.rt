@@ -1,8 +1,7 @@
 // Visits of slots.
 ghost use Rattle.std.specs.Prelude.{◌≡◌, ◌≤◌, ◌<◌, ◌+◌, ◌^◌, ℕ, IsFalse, IfOk, [], length, slice_index_or};
 ghost use Rattle.std.specs.List.{All};
-ghost use Rattle.pb_rows.specs.Closure.{nonfalse_sum};
-ghost use Rattle.rup_engine.specs.Literals.{among};
+ghost use Rattle.pb_rows.specs.Closure.{among, nonfalse_sum};
 ghost use Rattle.rup_engine.specs.Live.{UsesRows};
 ghost use Rattle.rup_engine.specs.Propagation.{Grows};
 ghost use Rattle.rup_engine.specs.Slots.{AreSlots, IsSteadySlot, entries_of, slot_at};

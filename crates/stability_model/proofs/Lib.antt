@@ -4,7 +4,12 @@ pub mod ModelExact
 pub mod Optimum
 mod Pushes
 mod Growing
-mod Places
+pub mod Places
 pub mod TermCount
 mod PairTerms
+pub mod Counts
+pub mod PairNumbers
+pub mod GoneInNone
+pub mod GoneSteps
+pub mod GoneLocal
 mod Worked

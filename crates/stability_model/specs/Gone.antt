@@ -44,8 +44,14 @@ pub record AreGone (lists : Lists) (gone : Pairs) : Type 0 where
   pub each : (p : ℕ) → IsPairNo lists p → IsTrue (gone p) → Gone lists p
   pub all : (p : ℕ) → Gone lists p → IsTrue (gone p)
 
--- the smaller of the number of residents with a pair that is left, and the posts that the pairs that are left can fill
+-- how many residents have a pair that is left
+abbrev pub residents_left : Lists → Pairs → ℕ
+residents_left lists gone = count_by (λ r. list_any (λ p. not (gone p)) (pairs_of_resident lists r)) (below (length lists.residents))
+
+-- how many posts the pairs that are left can fill
+abbrev pub posts_left : Lists → Pairs → ℕ
+posts_left lists gone = sum_by (λ h. min (capacity_of lists h) (count_by (λ p. not (gone p)) (pairs_of_hospital lists h))) (below (length lists.hospitals))
+
+-- No matching of pairs that are left has more than the smaller of the two.
 abbrev pub ceiling : Lists → Pairs → ℕ
-ceiling lists gone = min
-    (count_by (λ r. list_any (λ p. not (gone p)) (pairs_of_resident lists r)) (below (length lists.residents)))
-    (sum_by (λ h. min (capacity_of lists h) (count_by (λ p. not (gone p)) (pairs_of_hospital lists h))) (below (length lists.hospitals)))
+ceiling lists gone = min (residents_left lists gone) (posts_left lists gone)

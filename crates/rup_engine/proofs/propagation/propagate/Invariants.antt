@@ -1,6 +1,6 @@
 use Rattle.std.proofs.Common.{◌≡◌, take, false}
 use Rattle.std.specs.List.{All}
-use Rattle.rup_engine.specs.Literals.{among}
+use Rattle.pb_rows.specs.Closure.{among}
 use Rattle.rup_engine.specs.Propagation.{AddsFollowing, Grows, IsSettledAt}
 use Rattle.rup_engine.proofs.propagation.propagate.Given as goal
 

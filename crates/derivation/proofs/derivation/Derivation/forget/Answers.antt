@@ -1,8 +1,7 @@
-use Rattle.std.proofs.Common.{◌∙◌, ◌<◌, ap}
-use Rattle.pb_rows.specs.Formula.{NumberedRow}
+use Rattle.std.proofs.Common.{◌∙◌, ap}
 use Rattle.proof_lines.specs.declared.line.Line.TheVariants.{Del}
 use Rattle.proof_lines.specs.Texts.{line_text}
-use Rattle.derivation.proofs.Rising.{left_hold}
+use Rattle.derivation.proofs.InOrder.{order_left}
 use Rattle.derivation.proofs.Taken.{del_seen}
 use Rattle.derivation.proofs.Standing.{stays-step}
 use Rattle.derivation.proofs.derivation.Derivation.forget.Goals as goal
@@ -16,4 +15,4 @@ pub returns-clause-valid : goal.returns-clause-valid
 returns-clause-valid c = stays-step (Del c.args.ids.now) c.args.self.now _ c.requires.writable (λ e. absurd (cc)) c.requires.open (returns-clause-step c)
 
 pub invariant_of-self-2 : goal.invariant_of-self-2
-invariant_of-self-2 c = left_hold (λ (entry : NumberedRow). entry.number < c.self.inside.next) c.args.ids.now c.self.inside.rows c.remove_all.new.self c.remove_all.ensures c.self.invariant
+invariant_of-self-2 c = order_left c.args.ids.now c.self.inside.next c.self.inside.rows c.remove_all.new.self c.remove_all.ensures c.self.invariant

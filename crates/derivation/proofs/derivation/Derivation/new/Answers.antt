@@ -1,10 +1,11 @@
 use Rattle.std.proofs.Common.{◌≡◌, ◌<◌, ◌^◌, ℕ, ◌+◌, length, ap, arith, ◌∙◌}
 use Rattle.stability_model.specs.Model.{rows}
-use Rattle.derivation.proofs.Starts.{all_below, first_stands}
+use Rattle.derivation.proofs.InOrder.{order_first}
+use Rattle.derivation.proofs.Starts.{first_stands}
 use Rattle.derivation.proofs.derivation.Derivation.new.Goals as goal
 
 pub invariant_of-result : goal.invariant_of-result
-invariant_of-result c = all_below (rows c.args.model.now) c.from.result c.in_ok-rows.rows c.in_ok-rows.ensures (c.from.ensures ∙ c.row_count.ensures)
+invariant_of-result c = order_first (rows c.args.model.now) c.from.result c.in_ok-rows.rows c.in_ok-rows.ensures (c.from.ensures ∙ c.row_count.ensures)
 
 pub returns-clause-valid : goal.returns-clause-valid
 returns-clause-valid c =

@@ -4,3 +4,10 @@ mod Within
 mod Taking
 mod Passed
 mod Worked
+mod Variables
+mod BigNumbers
+mod ObjectiveSteps
+mod Refusing
+mod Drafting
+mod LineByLine
+mod ReadLimits

@@ -1,4 +1,5 @@
 pub mod InOrder
+pub mod Readiness
 pub mod Rising
 mod Literals
 mod Spelled
@@ -10,3 +11,4 @@ mod Solutions
 mod Asked
 mod Starts
 mod Counts
+mod WorkedCalls

@@ -20,7 +20,9 @@ use Rattle.proof_rules.specs.States.{first_state}
 use Rattle.proof_rules.specs.Valid.{Headed, Moves, Proving}
 use Rattle.proof_lines.specs.Texts.{line_text}
 use Rattle.derivation.specs.Derived.{Derived, StandsFor}
+use Rattle.derivation.specs.Ready.{IsReady}
 use Rattle.derivation.specs.Steps.{IsWritable, first_derived}
+use Rattle.derivation.proofs.Readiness.{ready_first}
 use Rattle.derivation.proofs.Standing.{stands-first}
 
 -- ---- lists that are taken from their fronts
@@ -98,3 +100,7 @@ module _ (lists seen : Lists) (live : List NumberedRow) (next : ℕ) (kept pendi
   pub first_stands : StandsFor [] (record { lists = seen; state = record { live = live; next = next; least = None }; held = record { kept = kept; learned = []; learn_notes = 0 }; claim = None; pending = pending })
   unfolding made
   first_stands = subst (StandsFor []) (sym made_is) (stands-first lists (Count (length (rows lists))) (count_writable (length (rows lists)) few) (λ e. absurd (cc)) (count_moves lists))
+
+  pub first_ready : IsReady (record { lists = seen; state = record { live = live; next = next; least = None }; held = record { kept = kept; learned = []; learn_notes = 0 }; claim = None; pending = pending })
+  unfolding made
+  first_ready = subst IsReady (sym made_is) (ready_first lists)

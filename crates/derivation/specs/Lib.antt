@@ -3,3 +3,4 @@ pub mod Derived
 pub mod Steps
 pub mod Deletions
 pub mod Ready
+pub mod Worked

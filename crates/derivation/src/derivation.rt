@@ -14,6 +14,7 @@ ghost use Rattle.proof_rules.specs.Pol.{pol_row};
 ghost use Rattle.proof_rules.specs.States.{IsInOrder, deleted, live_rows};
 ghost use Rattle.proof_rules.specs.Claims.{Shows};
 ghost use Rattle.derivation.specs.Derived.{IsConcludedValid, StandsFor, StaysSent, StaysValid};
+ghost use Rattle.derivation.specs.Ready.{IsReady};
 ghost use Rattle.derivation.specs.Steps.{IsRowOrTooBig, IsTooBig, IsWritable, NamesLiveRow, Tries, TriesEnd, TriesNote, emptied, first_derived, literals_at, with_kept, with_new_row, with_solution, written_of};
 
 use crate::PolRefusal;
@@ -65,6 +66,7 @@ impl<'a> Derivation<'a> {
     pub fn new(alloc: Global, model: &Model<'a>) -> Result<Derivation<'a>, NoMemory>
         ensures is { IfOk result (λ d. d ≡ first_derived model.now) }
         ensures valid { IfOk result (StandsFor []) }
+        ensures ready { IfOk result IsReady }
     {
         let rows = model_rows(alloc, model)?;
         let kept = first_kept(alloc, model)?;

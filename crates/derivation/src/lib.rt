@@ -11,6 +11,8 @@ mod refusal;
 mod rows;
 mod start;
 mod steps;
+#[cfg(test)]
+mod tests;
 
 pub use deleted::Deleted;
 pub use derivation::Derivation;

@@ -1,7 +1,7 @@
 -- A number that passes 2^120 makes a line too big.
-use Rattle.std.proofs.Common.{◌≡◌, ◌∙◌, ℕ, ◌+◌, ◌^◌, ◌<◌, ◌≤◌, Bool, true, false, ◌&&◌, nat_le, nat_lt, nat_abs, inl, inr, List, [], ◌∷◌, ◌++◌, Option, Some, refl, sym, arith}
+use Rattle.std.proofs.Common.{◌≡◌, ℕ, ◌^◌, ◌<◌, false, nat_le, nat_abs, inl, inr, List, [], ◌∷◌, ◌++◌, arith}
 use Rattle.std.specs.List.{list_all}
-use Rattle.std.proofs.lemmas.Bool.{cases_Bool, lt-ltb}
+use Rattle.std.proofs.lemmas.Bool.{cases_Bool}
 use Rattle.std.proofs.lemmas.Bool.Decides.{nat_tests}
 use Rattle.hrt_base.specs.declared.literal.Term.{Term}
 use Rattle.pb_rows.specs.Terms.{Written}

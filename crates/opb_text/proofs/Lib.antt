@@ -11,3 +11,7 @@ mod Refusing
 mod Drafting
 mod LineByLine
 mod ReadLimits
+mod SpelledLines
+mod SpelledFormula
+mod CanonicalRows
+mod ModelBack

@@ -1,14 +1,14 @@
 -- A formula that is read is within the limits.
 use Rattle.std.proofs.Common.{◌≡◌, ◌∙◌, ℕ, ◌+◌, ◌^◌, ◌<◌, ◌≤◌, max, nat_le, nat_lt, Bool, true, false, List, [], ◌∷◌, ◌++◌, length, Option, Some, None, refl, sym, ap, subst, arith, if◌then◌else◌, length-append}
-use Rattle.std.specs.Prelude.{bytes_eq, codes, flat_map, option_map}
-use Rattle.std.specs.List.{All, cons_option}
+use Rattle.std.specs.Prelude.{bytes_eq, codes, option_map}
+use Rattle.std.specs.List.{All}
 use Rattle.std.specs.Option.{option_or}
 use Rattle.std.proofs.lemmas.Bool.Decides.{nat_tests}
 use Rattle.std.proofs.lemmas.List.{append-nil}
 use Rattle.std.proofs.lemmas.List.Elements.{All-cons, All-nil, All-push}
 use Rattle.std.proofs.Common.{append_assoc}
 use Rattle.hrt_base.specs.declared.literal.Term.{Term}
-use Rattle.pb_rows.specs.Terms.{PlainRow, Written}
+use Rattle.pb_rows.specs.Terms.{PlainRow}
 use Rattle.pb_rows.specs.Points.{IsCovered}
 use Rattle.pb_rows.specs.Normal.{all_sizes, sizes}
 use Rattle.pb_rows.specs.Rows.{in_normal_form}

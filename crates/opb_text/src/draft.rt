@@ -31,8 +31,8 @@ impl Model for Draft {
     ghost Value = { Drafted };
 
     ghost view = { λ d. record {
-        formula = record { vars = d.vars; objective = d.objective.items; rows = d.rows.items };
-        begun = d.begun;
+      formula = record { vars = d.vars; objective = d.objective.items; rows = d.rows.items };
+      begun = d.begun;
     } };
 }
 
@@ -79,12 +79,7 @@ impl Draft {
     }
 
     // Takes the terms behind `min:`.
-    fn add_objective(
-        &mut self,
-        alloc: Global,
-        line: &[u8],
-        number: u32,
-    ) -> Result<(), OpbRefusal>
+    fn add_objective(&mut self, alloc: Global, line: &[u8], number: u32) -> Result<(), OpbRefusal>
         ensures fine { OnOk result (refusal_behind number self.old (option_map minimize (read_objective (tokens line.now))) ≡ None) }
         ensures taken { OnOk result (self.new ≡ with_statement self.old (option_map minimize (read_objective (tokens line.now)))) }
         ensures refused { IfErr result (IsRefusedBy (refusal_behind number self.old (option_map minimize (read_objective (tokens line.now))))) }

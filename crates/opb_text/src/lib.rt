@@ -10,6 +10,8 @@ mod objective;
 mod reading;
 mod refusal;
 mod spelled;
+#[cfg(test)]
+mod tests;
 mod writing;
 
 pub use formula::{Formula, formula_of};

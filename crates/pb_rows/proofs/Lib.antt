@@ -9,4 +9,5 @@ pub mod ByNets
 pub mod Forms
 pub mod Covers
 pub mod Implied
+pub mod Coefs
 mod Worked

@@ -62,6 +62,32 @@ comment = refl
 no_comment : read_line (codes ";* note") ≡ None
 no_comment = refl
 
+header_with_tabs : read_line (9 ∷ codes "pseudo-Boolean proof" ++ 9 ∷ 9 ∷ codes "version 2.0") ≡ Some Header
+header_with_tabs = refl
+
+output_other : read_line (codes "output IMPLICIT") ≡ None
+output_other = refl
+
+end_more : read_line (codes "end pseudo-Boolean proof now") ≡ None
+end_more = refl
+
+blank_none : read_line [] ≡ Some Blank
+blank_none = refl
+
+comment_any_bytes : read_line (32 ∷ 42 ∷ 255 ∷ 0 ∷ 13 ∷ 13 ∷ []) ≡ Some Comment
+comment_any_bytes = refl
+
+-- ---- carriage returns
+
+one_return : read_line (codes "f 7" ++ 13 ∷ []) ≡ Some (Count 7)
+one_return = refl
+
+two_returns : read_line (codes "f 7" ++ 13 ∷ 13 ∷ []) ≡ None
+two_returns = refl
+
+return_in_front : read_line (13 ∷ codes "f 7") ≡ None
+return_in_front = refl
+
 -- ---- counts and row numbers
 
 count : read_line (codes "f 7") ≡ Some (Count 7)
@@ -90,6 +116,18 @@ deleted_zero = refl
 
 deleted_word : read_line (codes "del 3") ≡ None
 deleted_word = refl
+
+deleted_leading_zero : read_line (codes "del id 1 02") ≡ None
+deleted_leading_zero = refl
+
+deleted_sign : read_line (codes "del id +1") ≡ None
+deleted_sign = refl
+
+deleted_nineteen_digits : judged (read_line (codes "del id 1000000000000000000")) ≡ Err Syntax
+deleted_nineteen_digits = refl
+
+deleted_spec : read_line (codes "del spec 3") ≡ None
+deleted_spec = refl
 
 -- ---- steps
 
@@ -135,6 +173,57 @@ factor_too_big = refl
 factor_too_big_spelled : judged (read_line (codes "pol 1329227995784915872903807060280344577 * 1")) ≡ Err (TooBig pol_kind)
 factor_too_big_spelled = refl
 
+steps_glued : read_line (codes "pol 1 2+") ≡ None
+steps_glued = refl
+
+steps_with_tabs : read_line (codes "pol" ++ 9 ∷ codes "1 " ++ 9 ∷ codes "s ") ≡ Some (Pol (Id (row_no 1) ∷ Saturate ∷ []))
+steps_with_tabs = refl
+
+steps_semicolon : read_line (codes "pol 1 s ;") ≡ None
+steps_semicolon = refl
+
+number_zero : read_line (codes "pol 0") ≡ None
+number_zero = refl
+
+number_with_sign : read_line (codes "pol +1") ≡ None
+number_with_sign = refl
+
+number_nineteen_digits : judged (read_line (codes "pol 1000000000000000000")) ≡ Err Syntax
+number_nineteen_digits = refl
+
+divide_first : read_line (codes "pol d") ≡ None
+divide_first = refl
+
+divide_behind_a_step : read_line (codes "pol 1 2 d d") ≡ None
+divide_behind_a_step = refl
+
+weaken_first : read_line (codes "pol w 1") ≡ None
+weaken_first = refl
+
+weaken_behind_a_step : read_line (codes "pol 1 x2 w w") ≡ None
+weaken_behind_a_step = refl
+
+literal_before_a_factor : read_line (codes "pol 1 x2 *") ≡ None
+literal_before_a_factor = refl
+
+number_weakened : read_line (codes "pol 1 2 w") ≡ None
+number_weakened = refl
+
+factor_minus_zero : read_line (codes "pol 1 -0 d") ≡ None
+factor_minus_zero = refl
+
+greatest_variable : read_line (codes "pol 1 x4294967295 w") ≡ Some (Pol (Id (row_no 1) ∷ Weaken 4294967295 ∷ []))
+greatest_variable = refl
+
+variable_above_it : read_line (codes "pol ~x4294967296") ≡ Some (Pol (Axiom (not_x 4294967295) ∷ []))
+variable_above_it = refl
+
+variable_leading_zero : read_line (codes "pol x01") ≡ None
+variable_leading_zero = refl
+
+divisor_too_big : judged (read_line (codes "pol 1 0001329227995784915872903807060280344577 d")) ≡ Err (TooBig pol_kind)
+divisor_too_big = refl
+
 -- ---- rows and points
 
 row : read_line (codes "rup +1 x1 -02 ~x2 >= -0;") ≡ Some (Rup (record { terms = record { coef = pos 1; lit = x 1 } ∷ record { coef = negsuc 1; lit = not_x 2 } ∷ []; at_least = pos 0 }))
@@ -167,6 +256,31 @@ point_of_none = refl
 point_semicolon : read_line (codes "soli x1 ;") ≡ None
 point_semicolon = refl
 
+row_with_zeros : read_line (codes "rup +0 x1 000 x1 >= 007 ;") ≡ Some (Rup (record { terms = record { coef = pos 0; lit = x 1 } ∷ record { coef = pos 0; lit = x 1 } ∷ []; at_least = pos 7 }))
+row_with_zeros = refl
+
+row_blank_in_a_number : read_line (codes "rup + 1 x1 >= 1 ;") ≡ None
+row_blank_in_a_number = refl
+
+row_of_equality : read_line (codes "rup 1 x1 = 1 ;") ≡ None
+row_of_equality = refl
+
+row_too_big_unfinished : judged (read_line (codes "rup 1329227995784915872903807060280344577 x1 >= 1")) ≡ Err Syntax
+row_too_big_unfinished = refl
+
+row_greatest : judged (read_line (codes "rup 1329227995784915872903807060280344576 x1 >= -1329227995784915872903807060280344576 ;"))
+    ≡ Ok (Rup (record { terms = record { coef = pos 1329227995784915872903807060280344576; lit = x 1 } ∷ []; at_least = negsuc 1329227995784915872903807060280344575 }))
+row_greatest = refl
+
+point_leading_zero : read_line (codes "soli x01") ≡ None
+point_leading_zero = refl
+
+point_blank_behind_sign : read_line (codes "soli ~ x1") ≡ None
+point_blank_behind_sign = refl
+
+point_twice : read_line (codes "soli x1 ~x1") ≡ Some (Soli (x 1 ∷ not_x 1 ∷ []))
+point_twice = refl
+
 -- ---- claims
 
 bounds : read_line (codes "conclusion BOUNDS -2 +3") ≡ Some (Conclusion (Bounds (Some (negsuc 1)) (Some (pos 3))))
@@ -189,6 +303,41 @@ upper_with_plus = refl
 
 bound_too_big : judged (read_line (codes "conclusion BOUNDS -INF 1329227995784915872903807060280344577")) ≡ Err (TooBig conclusion_kind)
 bound_too_big = refl
+
+lower_as_upper : read_line (codes "conclusion BOUNDS -2 -INF") ≡ None
+lower_as_upper = refl
+
+bounds_with_zeros : read_line (codes "conclusion BOUNDS -0 +007") ≡ Some (Conclusion (Bounds (Some (pos 0)) (Some (pos 7))))
+bounds_with_zeros = refl
+
+lower_above_upper : read_line (codes "conclusion BOUNDS 3 -2") ≡ Some (Conclusion (Bounds (Some (pos 3)) (Some (negsuc 1))))
+lower_above_upper = refl
+
+bound_missing : read_line (codes "conclusion BOUNDS 3") ≡ None
+bound_missing = refl
+
+bounds_more : read_line (codes "conclusion BOUNDS -2 3 : 8") ≡ None
+bounds_more = refl
+
+unsat_more : read_line (codes "conclusion UNSAT : 8") ≡ None
+unsat_more = refl
+
+no_sat : read_line (codes "conclusion SAT") ≡ None
+no_sat = refl
+
+no_claim_glued : read_line (codes "conclusionNONE") ≡ None
+no_claim_glued = refl
+
+-- ---- other rules
+
+other_rule : read_line (codes "red 1 x1 >= 1 ; x1 -> 1") ≡ None
+other_rule = refl
+
+one_letter_rule : read_line (codes "p 1 2 +") ≡ None
+one_letter_rule = refl
+
+capital_rule : read_line (codes "POL 1 2 +") ≡ None
+capital_rule = refl
 
 -- ---- first lines
 

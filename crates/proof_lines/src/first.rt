@@ -64,8 +64,10 @@ pub fn is_end_text(bytes: &[u8]) -> bool
 
 #[cfg(test)]
 mod tests {
-    use super::{is_end_text, next_line};
+    use super::{MOST_BYTES, is_end_text, next_line};
     use crate::{LineKind, LineRefusal, read_note};
+    use hrt_base::NoMemory;
+    use std::alloc::Global;
     use std::test::Fail;
 
     // How many lines the bytes have, each of which is read.
@@ -100,6 +102,42 @@ mod tests {
         );
         assert!(rt; is_end_text(b"end pseudo-Boolean proof\r"));
         assert!(rt; !is_end_text(b"end pseudo-Boolean proof\n"));
+        Ok(())
+    }
+
+    // A text, then so many times one byte, then another text.
+    fn filled(
+        alloc: Global,
+        front: &[u8],
+        byte: u8,
+        count: usize,
+        end: &[u8],
+    ) -> Result<Vec<u8>, NoMemory> {
+        let mut line = Vec::new(alloc);
+        line.extend_from_slice(front)?;
+        for _ in 0..count {
+            line.push(byte)?;
+        }
+        line.extend_from_slice(end)?;
+        Ok(line)
+    }
+
+    #[test]
+    fn reads_long_lines(rt: HostRuntime) -> Result<(), Fail> {
+        let blanks = filled(rt.alloc(), b"f 7", b' ', MOST_BYTES - 4, b"\n")?;
+        assert_eq!(rt; blanks.len(), MOST_BYTES);
+        assert_eq!(rt; count_lines(&rt, &blanks), Ok(1));
+        let longer = filled(rt.alloc(), b"* ", b'9', MOST_BYTES - 2, b"\n")?;
+        assert_eq!(rt; count_lines(&rt, &longer), Err(LineRefusal::Syntax));
+        let digits = filled(rt.alloc(), b"rup ", b'9', 5000, b" x1 >= 1 ;\n")?;
+        assert_eq!(rt;
+            count_lines(&rt, &digits),
+            Err(LineRefusal::TooBig(LineKind::Rup))
+        );
+        let zeros = filled(rt.alloc(), b"rup ", b'0', 5000, b"7 x1 >= 1 ;\n")?;
+        assert_eq!(rt; count_lines(&rt, &zeros), Ok(1));
+        let unspelled = filled(rt.alloc(), b"pol ", b'9', 5000, b" * *\n")?;
+        assert_eq!(rt; count_lines(&rt, &unspelled), Err(LineRefusal::Syntax));
         Ok(())
     }
 

@@ -13,3 +13,4 @@ pub mod GoneInNone
 pub mod GoneSteps
 pub mod GoneLocal
 mod Worked
+pub mod CoefRows

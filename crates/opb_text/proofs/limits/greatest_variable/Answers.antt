@@ -1,4 +1,4 @@
-use Rattle.std.proofs.Common.{◌∙◌, ℕ, max, sym, ap}
+use Rattle.std.proofs.Common.{◌∙◌, max, sym, ap}
 use Rattle.opb_text.proofs.Variables.{greatest_more}
 use Rattle.opb_text.proofs.limits.greatest_variable.Goals as goal
 

@@ -1,12 +1,8 @@
-use Rattle.std.proofs.Common.{◌≡◌, [], ◌∷◌, ◌++◌, ℕ, List, sym, ap, ◌∙◌}
+use Rattle.std.proofs.Common.{◌≡◌, ◌∷◌, ℕ, List, sym, ap, ◌∙◌}
 use Rattle.std.specs.Prelude.{option_map}
 use Rattle.hrt_base.specs.declared.literal.Term.{Term}
-use Rattle.row_text.specs.declared.readings.Reading.TheVariants.{TooBig as too_big, Unspelled, Value}
 use Rattle.row_text.specs.Tokens.{tokens}
-use Rattle.opb_text.specs.declared.refusal.OpbRefusal.{OpbRefusal}
-use Rattle.opb_text.specs.declared.refusal.OpbRefusal.TheVariants.{Syntax, TooBig}
-use Rattle.opb_text.specs.Refusal.{IsRefusedBy, statement_refusal}
-use Rattle.opb_text.specs.Statements.{minimize, read_objective}
+use Rattle.opb_text.specs.Statements.{read_objective}
 use Rattle.opb_text.proofs.ObjectiveSteps.{bad_rest, big_term, no_term, onto, term_read, unspelled}
 use Rattle.opb_text.proofs.objective.spelled_terms.Goals as goal
 use Rattle.opb_text.proofs.objective.spelled_terms.Goals.{then-is_objective, else-is_objective}

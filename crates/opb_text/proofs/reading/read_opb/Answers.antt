@@ -1,10 +1,10 @@
-use Rattle.std.proofs.Common.{◌≡◌, ◌∙◌, ◌+◌, ◌<◌, ◌∷◌, List, length, map, sym, ap, subst, arith, None}
+use Rattle.std.proofs.Common.{◌∙◌, ◌+◌, ◌<◌, List, length, map, sym, ap, subst, arith}
 use Rattle.std.proofs.lemmas.Result.{err_from_is_err_and}
 use Rattle.row_text.specs.Tokens.{tokens}
 use Rattle.opb_text.specs.Drafts.{Drafted}
-use Rattle.opb_text.specs.Refusal.{IsRefusedBy, lines_of, refusal}
+use Rattle.opb_text.specs.Refusal.{lines_of}
 use Rattle.opb_text.specs.Statements.{Line}
-use Rattle.opb_text.proofs.LineByLine.{AllRead, HasRead, all_read, is_due, is_refused, lines_few, none_read, one_read, only_memory}
+use Rattle.opb_text.proofs.LineByLine.{HasRead, all_read, is_due, is_refused, lines_few, one_read, only_memory}
 use Rattle.opb_text.proofs.ReadLimits.{read_within}
 use Rattle.opb_text.proofs.reading.read_opb.Goals as goal
 

@@ -1,8 +1,6 @@
-use Rattle.std.proofs.Common.{◌∙◌, ℕ, Bool, length, sym, ap}
+use Rattle.std.proofs.Common.{◌∙◌, length, sym, ap}
 use Rattle.std.proofs.lemmas.Result.{err_from_is_err_and}
-use Rattle.row_text.specs.Tokens.{tokens}
 use Rattle.opb_text.specs.Drafts.{Drafted}
-use Rattle.opb_text.specs.Statements.{read_objective}
 use Rattle.opb_text.proofs.Refusing.{first_objective, late_objective}
 use Rattle.opb_text.proofs.draft.Draft.add_objective.Goals as goal
 

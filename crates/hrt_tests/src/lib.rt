@@ -4,6 +4,8 @@
 #[cfg(test)]
 mod audits;
 #[cfg(test)]
+mod checks;
+#[cfg(test)]
 mod definition;
 #[cfg(test)]
 mod faults;
@@ -19,3 +21,5 @@ mod runs;
 mod solves;
 #[cfg(test)]
 mod texts;
+#[cfg(test)]
+mod verifies;

@@ -15,3 +15,4 @@ mod SpelledLines
 mod SpelledFormula
 mod CanonicalRows
 mod ModelBack
+mod WorkedReading

@@ -1,2 +1,4 @@
 pub mod Standing
 pub mod Answers
+pub mod Faults
+pub mod Kept

@@ -3,8 +3,10 @@
 #![tactic(auto)]
 
 mod checker;
+mod fault;
 mod phase;
 mod refusal;
+mod state;
 
 pub use checker::Checker;
 pub use refusal::ProofRefusal;

@@ -31,6 +31,10 @@ reason_of NoMemory = None
 abbrev pub Answers : {A : Type 0} → Result A Refusal → Fault → Type 0
 Answers answer fault = IfSome (reason_of fault) (λ reason. answer ≡ Err reason)
 
+-- the point isn't full, where that is so
+abbrev pub IsNotFullWhere : Type 0 → Fault → Type 0
+IsNotFullWhere so fault = IfSome (reason_of fault) (λ reason. (reason ≡ why.NotFull) × so)
+
 -- the line is refused for that reason
 abbrev pub Halts : Formula → Place → Line → Fault → Type 0
 Halts f here line fault = IfSome (reason_of fault) (Refuses f here line)

@@ -18,6 +18,10 @@ pub record IsKeptOver (vars : ℕ) (s : State) : Type 0 where
   pub ordered : IsInOrder s
   pub over : All (IsOver vars) (live_rows s)
 
+-- where the one rows are kept so, the others are
+abbrev pub StaysKept : ℕ → List NumberedRow → List NumberedRow → Type 0
+StaysKept vars old new = (s : State) → IsKeptOver vars (record s { live = old }) → IsKeptOver vars (record s { live = new })
+
 -- a row is made live
 abbrev pub with_new_row : PlainRow → Kept → Kept
 with_new_row row kept = record kept { state = with_row kept.state row }

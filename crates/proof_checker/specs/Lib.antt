@@ -2,3 +2,4 @@ pub mod Standing
 pub mod Answers
 pub mod Faults
 pub mod Kept
+pub mod Tests

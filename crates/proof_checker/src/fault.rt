@@ -6,6 +6,7 @@ ghost use Rattle.proof_checker.specs.Faults.{at_line, fault_of};
 use crate::ProofRefusal;
 use hrt_base::NoMemory;
 use proof_steps::StepRefusal;
+use std::alloc::{AllocError, AllocFailed};
 
 /// Why a line is no step, or that memory is wanting.
 #[derive(Clone, Copy, Debug, PartialEq, Eq)]
@@ -27,6 +28,22 @@ impl From<NoMemory> for Fault {
     ghost from_gives = { λ _ e. e ≡ no_memory };
 
     fn from(_: NoMemory) -> Self {
+        Fault::NoMemory
+    }
+}
+
+impl From<AllocError> for Fault {
+    ghost from_gives = { λ _ e. e ≡ no_memory };
+
+    fn from(_: AllocError) -> Self {
+        Fault::NoMemory
+    }
+}
+
+impl<T: Drop> From<AllocFailed<T>> for Fault {
+    ghost from_gives = { λ _ e. e ≡ no_memory };
+
+    fn from(_: AllocFailed<T>) -> Self {
         Fault::NoMemory
     }
 }

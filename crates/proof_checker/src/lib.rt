@@ -6,7 +6,9 @@ mod checker;
 mod fault;
 mod phase;
 mod refusal;
+mod solution;
 mod state;
+mod steps;
 
 pub use checker::Checker;
 pub use refusal::ProofRefusal;

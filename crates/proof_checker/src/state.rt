@@ -10,7 +10,7 @@ ghost use Rattle.proof_rules.specs.States.{deleted, first_state, live_rows, smal
 ghost use Rattle.proof_rules.specs.Claims.{HasStronger};
 ghost use Rattle.proof_rules.specs.Sound.{HasNormalRows};
 ghost use Rattle.proof_checker.specs.Faults.{Answers};
-ghost use Rattle.proof_checker.specs.Kept.{with_new_row, with_rows, with_solution};
+ghost use Rattle.proof_checker.specs.Kept.{StaysKept, with_new_row, with_rows, with_solution};
 
 use crate::fault::Fault;
 use hrt_base::{NoMemory, RowNo};
@@ -62,6 +62,7 @@ fn remove_all(alloc: Global, live: &mut Live, ids: &[RowNo]) -> Result<(), Fault
     ensures vars { live.new.vars ≡ live.old.vars }
     ensures ok { OnOk result (deleted ids.now live.old.rows ≡ Ok live.new.rows) }
     ensures refused { IfErr result (Answers (deleted ids.now live.old.rows)) }
+    ensures kept { StaysKept live.old.vars live.old.rows live.new.rows }
 {
     for id in ids {
         if !live.remove(alloc, *id)? {
@@ -126,8 +127,7 @@ impl State {
         requires next { self.old.state.next < 2 ^ 63 }
         ensures { OnOk result (self.new ≡ with_solution value row self.old) }
     {
-        self.live.add(alloc, RowNo(self.next), row)?;
-        self.next += 1;
+        self.add(alloc, row)?;
         self.least = Some(smaller(self.least, value));
         Ok(())
     }

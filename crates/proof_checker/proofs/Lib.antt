@@ -1,2 +1,4 @@
 mod Carrying
 mod Living
+mod Passing
+mod Naming

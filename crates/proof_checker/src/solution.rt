@@ -3,6 +3,7 @@ ghost use Rattle.std.specs.Prelude.{◌≡◌, ◌<◌, ◌≤◌, ◌^◌, IsTr
 ghost use Rattle.std.specs.List.{All, list_all};
 ghost use Rattle.pb_rows.specs.Points.{IsCovered, point_of};
 ghost use Rattle.opb_text.specs.Limits.{IsWithinLimits};
+ghost use Rattle.proof_lines.specs.declared.line.Line.TheVariants.{Soli};
 ghost use Rattle.proof_lines.specs.Texts.{is_made_literal};
 ghost use Rattle.proof_rules.specs.States.{is_full};
 ghost use Rattle.proof_rules.specs.Valid.{Proving};
@@ -91,7 +92,7 @@ fn check_rows(rows: &[Row], point: &[bool]) -> Result<(), Fault>
     ensures ok { OnOk result (holding_rows (point_of point.now) rows.now ≡ Ok tt) }
     ensures refused { IfErr result (Answers (holding_rows (point_of point.now) rows.now)) }
 {
-    let mut number = 0;
+    let mut number: u64 = 0;
     for row in rows {
         number += 1;
         if !row.holds(point) {
@@ -112,8 +113,8 @@ pub fn log(
     requires vars { state.old.vars ≡ formula.now.vars }
     requires next { state.old.state.next < 2 ^ 63 }
     requires made { IsTrue (list_all is_made_literal literals.now) }
-    ensures ok { OnOk result (Steps formula.now (Line.Soli literals.now) state.old state.new) }
-    ensures refused { IfErr result (Halts formula.now (Proving state.old.state) (Line.Soli literals.now)) }
+    ensures ok { OnOk result (Steps formula.now (Soli literals.now) state.old state.new) }
+    ensures refused { IfErr result (Halts formula.now (Proving state.old.state) (Soli literals.now)) }
 {
     check_literals(formula.vars, literals)?;
     let point = named_point(alloc, formula.vars, literals)?;

@@ -2,6 +2,7 @@
 ghost use Rattle.std.specs.Prelude.{◌≡◌, ◌<◌, ◌^◌, IsTrue, IfErr, IfOk, OnOk, Ok};
 ghost use Rattle.std.specs.List.{list_all};
 ghost use Rattle.row_text.specs.Rows.{is_small_row};
+ghost use Rattle.proof_lines.specs.declared.line.Line.TheVariants.{Del, Pol, Rup};
 ghost use Rattle.proof_lines.specs.Texts.{is_made_step, is_made_term};
 ghost use Rattle.proof_rules.specs.States.{rup_row};
 ghost use Rattle.proof_rules.specs.Valid.{Proving};
@@ -28,8 +29,8 @@ pub fn derive(
     requires vars { state.old.vars ≡ formula.now.vars }
     requires next { state.old.state.next < 2 ^ 63 }
     requires made { IsTrue (list_all is_made_step steps.now) }
-    ensures ok { OnOk result (Steps formula.now (Line.Pol steps.now) state.old state.new) }
-    ensures refused { IfErr result (Halts formula.now (Proving state.old.state) (Line.Pol steps.now)) }
+    ensures ok { OnOk result (Steps formula.now (Pol steps.now) state.old state.new) }
+    ensures refused { IfErr result (Halts formula.now (Proving state.old.state) (Pol steps.now)) }
 {
     match pol_row(alloc, formula.vars, &*state, steps) {
         Ok(row) => {
@@ -78,8 +79,8 @@ pub fn imply(
     requires next { state.old.state.next < 2 ^ 63 }
     requires made { IsTrue (list_all is_made_term written.now.terms) }
     requires small { IsTrue (is_small_row written.now) }
-    ensures ok { OnOk result (Steps formula.now (Line.Rup written.now) state.old state.new) }
-    ensures refused { IfErr result (Halts formula.now (Proving state.old.state) (Line.Rup written.now)) }
+    ensures ok { OnOk result (Steps formula.now (Rup written.now) state.old state.new) }
+    ensures refused { IfErr result (Halts formula.now (Proving state.old.state) (Rup written.now)) }
 {
     let row = rup_row(alloc, formula.vars, written)?;
     if !state.implies(alloc, &row)? {
@@ -96,8 +97,8 @@ pub fn delete(
     state: &mut State,
     ids: &[RowNo],
 ) -> Result<(), Fault>
-    ensures ok { OnOk result (Steps formula.now (Line.Del ids.now) state.old state.new) }
-    ensures refused { IfErr result (Halts formula.now (Proving state.old.state) (Line.Del ids.now)) }
+    ensures ok { OnOk result (Steps formula.now (Del ids.now) state.old state.new) }
+    ensures refused { IfErr result (Halts formula.now (Proving state.old.state) (Del ids.now)) }
 {
     state.delete(alloc, ids)?;
     Ok(())

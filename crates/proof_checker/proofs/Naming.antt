@@ -33,11 +33,10 @@ times-push v ls l = omega (arith, times-append v ls (l ∷ []), times-cons v l [
 
 unnamed : (v : ℕ) (ls : List Lit) → times v ls ≡ 0 → named_point ls v ≡ false
 unnamed v [] h = refl
-unnamed v (l ∷ ls) h = step (l.var == v) refl
-  where
-    step : (b : Bool) → (l.var == v) ≡ b → named_point (l ∷ ls) v ≡ false
-    step true e = absurd (omega (arith, sym h ∙ times-cons v l ls ∙ ap (λ (b : Bool). one_if b + times v ls) e))
-    step false e = rw e (unnamed v ls (omega (arith, sym h ∙ times-cons v l ls ∙ ap (λ (b : Bool). one_if b + times v ls) e)))
+unnamed v (l ∷ ls) h = elim (cases_Bool (l.var == v)) [
+  | inl e ↦ absurd (omega (arith, sym h ∙ times-cons v l ls ∙ ap (λ (b : Bool). one_if b + times v ls) e))
+  | inr e ↦ rw e (unnamed v ls (omega (arith, sym h ∙ times-cons v l ls ∙ ap (λ (b : Bool). one_if b + times v ls) e)))
+]
 
 or_false : (a b : Bool) → (a || (b || false)) ≡ (a || b)
 or_false true b = refl

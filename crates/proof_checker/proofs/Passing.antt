@@ -16,39 +16,8 @@ use Rattle.proof_checker.proofs.Living.{drop-at}
 abbrev Nothing : Type 0
 Nothing = Result (Unit {0}) Refusal
 
--- ---- one item
-
-pub above : (n m : ℕ) → m < n → nat_le n m ≡ false
-above n m h = grind (arith, nat_tests)
-
-pub literal-passes : (vars : ℕ) (ls : List Lit) (i : ℕ) (d : Lit) → i < length ls → (get_or ls i d).var ≤ vars → known_literals vars (drop i ls) ≡ known_literals vars (drop (i + 1) ls)
-literal-passes vars ls i d h within =
-    let test : nat_le (get_or ls i d).var vars ≡ true = le-leb (get_or ls i d).var vars within in
-    ap (known_literals vars) (drop-at ls i d h) ∙ rw test refl
-
-pub literal-stops : (vars : ℕ) (ls : List Lit) (i : ℕ) (d : Lit) → i < length ls → vars < (get_or ls i d).var → known_literals vars (drop i ls) ≡ Err (BadVariable (get_or ls i d).var)
-literal-stops vars ls i d h beyond =
-    let test : nat_le (get_or ls i d).var vars ≡ false = above (get_or ls i d).var vars beyond in
-    ap (known_literals vars) (drop-at ls i d h) ∙ rw test refl
-
-pub term-passes : (vars : ℕ) (ts : List Term) (i : ℕ) (d : Term) → i < length ts → (get_or ts i d).lit.var ≤ vars → known_terms vars (drop i ts) ≡ known_terms vars (drop (i + 1) ts)
-term-passes vars ts i d h within =
-    let test : nat_le (get_or ts i d).lit.var vars ≡ true = le-leb (get_or ts i d).lit.var vars within in
-    ap (known_terms vars) (drop-at ts i d h) ∙ rw test refl
-
-pub term-stops : (vars : ℕ) (ts : List Term) (i : ℕ) (d : Term) → i < length ts → vars < (get_or ts i d).lit.var → known_terms vars (drop i ts) ≡ Err (BadVariable (get_or ts i d).lit.var)
-term-stops vars ts i d h beyond =
-    let test : nat_le (get_or ts i d).lit.var vars ≡ false = above (get_or ts i d).lit.var vars beyond in
-    ap (known_terms vars) (drop-at ts i d h) ∙ rw test refl
-
 abbrev holding_from : Point → ℕ → List PlainRow → Nothing
 holding_from p n rows = if_hold p n rows (Ok tt)
-
-pub row-passes : (p : Point) (n : ℕ) (rows : List PlainRow) (i : ℕ) (d : PlainRow) → i < length rows → holds p (get_or rows i d) ≡ true → holding_from p n (drop i rows) ≡ holding_from p (n + 1) (drop (i + 1) rows)
-row-passes p n rows i d h holding = ap (holding_from p n) (drop-at rows i d h) ∙ rw holding refl
-
-pub row-stops : (p : Point) (n : ℕ) (rows : List PlainRow) (i : ℕ) (d : PlainRow) → i < length rows → holds p (get_or rows i d) ≡ false → holding_from p n (drop i rows) ≡ Err (NotASolution n)
-row-stops p n rows i d h broken = ap (holding_from p n) (drop-at rows i d h) ∙ rw broken refl
 
 -- ---- any answer
 

@@ -1,11 +1,13 @@
 // The state of a proof.
 ghost use Rattle.std.specs.Prelude.{◌≡◌, ◌+◌, ◌<◌, ◌≤◌, ◌^◌, ◌↔◌, IsTrue, IfOk, IfErr, OnOk, Ok, length};
-ghost use Rattle.std.specs.List.{All};
+ghost use Rattle.std.specs.List.{All, list_all};
 ghost use Rattle.pb_rows.specs.Terms.{IsRisingFrom};
 ghost use Rattle.pb_rows.specs.Closure.{Implies, Refuted, none};
 ghost use Rattle.pb_rows.specs.Formula.{numbered_from};
 ghost use Rattle.opb_text.specs.Limits.{IsWithinLimits, most_rows};
 ghost use Rattle.rup_engine.specs.Live.{IsOver};
+ghost use Rattle.proof_lines.specs.Texts.{is_made_step};
+ghost use Rattle.proof_rules.specs.Pol.{pol_row};
 ghost use Rattle.proof_rules.specs.States.{deleted, first_state, live_rows, smaller};
 ghost use Rattle.proof_rules.specs.Claims.{HasStronger};
 ghost use Rattle.proof_rules.specs.Sound.{HasNormalRows};
@@ -16,7 +18,8 @@ use crate::fault::Fault;
 use hrt_base::{NoMemory, RowNo};
 use opb_text::Formula;
 use pb_rows::Row;
-use proof_steps::LiveRows;
+use proof_lines::PolStep;
+use proof_steps::{LiveRows, pol_row};
 use rup_engine::Live;
 use std::alloc::Global;
 use std::marker::Model;
@@ -108,6 +111,26 @@ impl State {
         ensures { result ≡ self.now.state.least }
     {
         self.least
+    }
+
+    /// Makes the row that steps leave on the stack.
+    pub fn row_of_steps(
+        &self,
+        alloc: Global,
+        vars: u32,
+        steps: &[PolStep],
+    ) -> Result<Row, Fault>
+        requires vars { self.now.vars ≡ vars }
+        requires made { IsTrue (list_all is_made_step steps.now) }
+        ensures ok { IfOk result (λ row. pol_row vars self.now.state.live steps.now ≡ Ok row) }
+        ensures over { IfOk result (IsOver vars) }
+        ensures refused { IfErr result (Answers (pol_row vars self.now.state.live steps.now)) }
+    {
+        let _live = &self.live;
+        match pol_row(alloc, vars, self, steps) {
+            Ok(row) => Ok(row),
+            Err(refusal) => Err(Fault::of_steps(refusal)),
+        }
     }
 
     /// Makes a row live.

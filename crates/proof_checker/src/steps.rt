@@ -16,7 +16,6 @@ use hrt_base::{RowNo, Term};
 use opb_text::Formula;
 use pb_rows::{Row, RowRefusal};
 use proof_lines::{PolStep, Written};
-use proof_steps::pol_row;
 use std::alloc::Global;
 
 /// Makes the row live that steps leave on the stack.
@@ -32,13 +31,9 @@ pub fn derive(
     ensures ok { OnOk result (Steps formula.now (Pol steps.now) state.old state.new) }
     ensures refused { IfErr result (Halts formula.now (Proving state.old.state) (Pol steps.now)) }
 {
-    match pol_row(alloc, formula.vars, &*state, steps) {
-        Ok(row) => {
-            state.add(alloc, row)?;
-            Ok(())
-        }
-        Err(refusal) => Err(Fault::of_steps(refusal)),
-    }
+    let row = state.row_of_steps(alloc, formula.vars, steps)?;
+    state.add(alloc, row)?;
+    Ok(())
 }
 
 /// Looks for a term whose variable the formula doesn't have.

@@ -6,3 +6,4 @@ mod Covering
 mod Halting
 mod Agreeing
 mod Solving
+mod Following

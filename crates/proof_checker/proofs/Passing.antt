@@ -19,6 +19,9 @@ Nothing = Result (Unit {0}) Refusal
 abbrev holding_from : Point → ℕ → List PlainRow → Nothing
 holding_from p n rows = if_hold p n rows (Ok tt)
 
+pub above : (n m : ℕ) → m < n → nat_le n m ≡ false
+above n m h = grind (arith, nat_tests)
+
 -- ---- any answer
 
 known_by : {A : Type 0} (b : Bool) (n : ℕ) (r s : Result A Refusal) (t : Nothing) → (if b then t else Err (BadVariable n)) ≡ Ok tt → (t ≡ Ok tt → r ≡ s) → (if b then r else Err (BadVariable n)) ≡ s

@@ -1,19 +1,14 @@
 -- What a `rup` line makes of a state.
-use mir.Val.{SFits, of_z, to_z}
-use Rattle.std.proofs.Common.{◌≡◌, ◌⊎◌, ℕ, suc, ◌≤◌, ◌<◌, ◌^◌, ℤ, pos, negsuc, Bool, true, false, nat_le, List, if◌then◌else◌, inl, inr, refl, sym, ap, ◌∙◌, subst, arith}
+use Rattle.std.proofs.Common.{◌≡◌, ◌⊎◌, ℕ, ◌≤◌, ◌<◌, ◌^◌, Bool, true, false, nat_le, List, if◌then◌else◌, inl, inr, refl, sym, ap, ◌∙◌, subst}
 use Rattle.std.specs.Prelude.{Result, Ok, Err}
-use Rattle.std.specs.Int.{w128}
-use Rattle.std.specs.List.{list_all}
-use Rattle.std.proofs.lemmas.Bool.{and_parts, le-leb, leb-true}
-use Rattle.std.proofs.lemmas.Int.{to_z-of_z}
+use Rattle.std.proofs.lemmas.Bool.{le-leb}
 use Rattle.hrt_base.specs.declared.numbered.RowNo.{RowNo}
 use Rattle.pb_rows.specs.Terms.{PlainRow, Written}
 use Rattle.pb_rows.specs.Normal.{all_sizes}
 use Rattle.pb_rows.specs.Rows.{in_normal_form}
 use Rattle.pb_rows.specs.Closure.{Implies}
 use Rattle.pb_rows.specs.Formula.{Formula, NumberedRow}
-use Rattle.row_text.specs.Numbers.{is_small}
-use Rattle.row_text.specs.Rows.{is_small_row, is_small_term}
+use Rattle.row_text.specs.Rows.{is_small_row}
 use Rattle.proof_lines.specs.declared.line.PolStep.{PolStep}
 use Rattle.proof_lines.specs.declared.line.Line.TheVariants.{Pol, Rup, Del}
 use Rattle.proof_rules.specs.Refusals.{Refusal, NotImplied, TooBig}
@@ -79,13 +74,3 @@ module _ (vars : ℕ) (w : Written) (small : is_small_row w ≡ true) where
 
   pub rup-too_big : known_terms vars w.terms ≡ Ok tt → 2 ^ 120 < all_sizes w.terms w.at_least → rup_row vars w ≡ Err TooBig
   rup-too_big known h = to_sizes known ∙ ap fitting (above (all_sizes w.terms w.at_least) (2 ^ 120) h)
-
--- ---- numbers
-
-small-fits : (z : ℤ) → is_small z ≡ true → SFits w128 z
-small-fits (pos n) h = record { sfits = omega (arith, leb-true n (2 ^ 120) h) }
-small-fits (negsuc n) h = record { sfits = omega (arith, leb-true (suc n) (2 ^ 120) h) }
-
--- a number of a small row is passed as it is
-pub right-passed : (w : Written) → is_small_row w ≡ true → to_z w128 (of_z w128 w.at_least) ≡ w.at_least
-right-passed w h = to_z-of_z w128 w.at_least (small-fits w.at_least (and_parts (list_all is_small_term w.terms) (is_small w.at_least) h).1)

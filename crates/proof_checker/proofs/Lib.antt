@@ -7,3 +7,5 @@ mod Halting
 mod Agreeing
 mod Solving
 mod Following
+mod Sizes
+mod Showing

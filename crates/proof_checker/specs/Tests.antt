@@ -1,11 +1,12 @@
 -- Tests of the rules, with an answer that carries nothing.
-use Rattle.std.specs.Prelude.{◌≡◌, ℕ, ◌-◌, ◌==◌, Bool, true, List, length, count_by, slice_index_or, Option, Some, None, Result, Ok}
+use Rattle.std.specs.Prelude.{◌≡◌, ℕ, ℤ, ◌-◌, ◌==◌, Bool, true, List, length, count_by, slice_index_or, Option, Some, None, Result, Ok}
 use Rattle.std.specs.List.{All}
 use Rattle.hrt_base.specs.declared.literal.Lit.{Lit}
 use Rattle.hrt_base.specs.declared.literal.Term.{Term}
 use Rattle.pb_rows.specs.Terms.{PlainRow}
 use Rattle.pb_rows.specs.Points.{IsCovered, Point, point_of}
 use Rattle.proof_rules.specs.Refusals.{Refusal}
+use Rattle.proof_rules.specs.Claims.{IsReached}
 use Rattle.proof_rules.specs.States.{if_hold, if_known, is_full, literals_in, named_point}
 
 -- each literal's variable is at most vars
@@ -34,3 +35,8 @@ pub record IsNamedPoint (vars : ℕ) (ls : List Lit) (bits : List Bool) : Type 0
   pub full : is_full vars ls ≡ true
   pub size : length bits ≡ vars
   pub same : (v : ℕ) → IsCovered vars v → point_of bits v ≡ named_point ls v
+
+-- a value at most the upper bound was logged, where there is a bound
+abbrev pub ReachesUpper : Option ℤ → Option ℤ → Type 0
+ReachesUpper least None = Unit {0}
+ReachesUpper least (Some u) = IsReached least u

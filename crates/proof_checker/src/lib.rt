@@ -3,6 +3,7 @@
 #![tactic(auto)]
 
 mod checker;
+mod claims;
 mod fault;
 mod phase;
 mod refusal;

@@ -9,7 +9,8 @@ use Rattle.pb_rows.specs.Normal.{all_sizes, normal_form}
 use Rattle.row_text.specs.Rows.{is_small_row}
 use Rattle.proof_checker.specs.Tests.{known_terms}
 use Rattle.proof_checker.proofs.Halting.{answers-as}
-use Rattle.proof_checker.proofs.Following.{right-passed, rup-made, rup-too_big, rup-unknown}
+use Rattle.proof_checker.proofs.Sizes.{right-passed}
+use Rattle.proof_checker.proofs.Following.{rup-made, rup-too_big, rup-unknown}
 use Rattle.proof_checker.proofs.steps.rup_row.Goals as goal
 
 pub returns-in_err-check_terms-clause-refused : goal.returns-in_err-check_terms-clause-refused

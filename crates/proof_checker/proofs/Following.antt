@@ -1,5 +1,5 @@
 -- What a `rup` line makes of a state.
-use Rattle.std.proofs.Common.{◌≡◌, ◌⊎◌, ℕ, ◌≤◌, ◌<◌, ◌^◌, Bool, true, false, nat_le, List, if◌then◌else◌, inl, inr, refl, sym, ap, ◌∙◌, subst}
+use Rattle.std.proofs.Common.{◌≡◌, ◌⊎◌, ℕ, ◌≤◌, ◌<◌, ◌^◌, Bool, true, false, nat_le, List, if◌then◌else◌, inl, inr, refl, sym, ap, ◌∙◌, subst, arith}
 use Rattle.std.specs.Prelude.{Result, Ok, Err}
 use Rattle.std.proofs.lemmas.Bool.{le-leb}
 use Rattle.hrt_base.specs.declared.numbered.RowNo.{RowNo}
@@ -52,6 +52,7 @@ module _ (f : Formula) (old : Kept) where
             owed = subst (Implies (live_rows old.state)) (sym normal) implied;
           };
           vars = refl;
+          next = omega arith;
         })
 
 -- ---- `rup` rows

@@ -1,5 +1,5 @@
 -- What a solution line makes of a state.
-use Rattle.std.proofs.Common.{◌≡◌, ℕ, ◌+◌, Bool, true, false, List, [], ◌∷◌, length, if◌then◌else◌, ℤ, pos, ◌-ℤ◌, inl, refl, sym, ap, ap₂, ◌∙◌, subst}
+use Rattle.std.proofs.Common.{◌≡◌, ℕ, ◌+◌, Bool, true, false, List, [], ◌∷◌, length, if◌then◌else◌, ℤ, pos, ◌-ℤ◌, inl, refl, sym, ap, ap₂, ◌∙◌, subst, arith}
 use Rattle.std.specs.Prelude.{Some, Result, Ok, Err}
 use Rattle.std.specs.List.{All}
 use Rattle.hrt_base.specs.declared.literal.Lit.{Lit}
@@ -83,4 +83,5 @@ module _ (f : Formula) (s : State) (ls : List Lit) where
             owed = tt;
           });
           vars = refl;
+          next = omega arith;
         })

@@ -1,5 +1,5 @@
 -- The states that the code keeps.
-use Rattle.std.specs.Prelude.{◌≡◌, ℕ, ℤ, List, Option, Some}
+use Rattle.std.specs.Prelude.{◌≡◌, ◌≤◌, ◌+◌, ℕ, ℤ, List, Option, Some}
 use Rattle.std.specs.List.{All}
 use Rattle.pb_rows.specs.Terms.{PlainRow}
 use Rattle.pb_rows.specs.Formula.{Formula, NumberedRow}
@@ -38,3 +38,4 @@ with_solution v row kept = record kept { state = record (with_row kept.state row
 pub record Steps (f : Formula) (line : Line) (old new : Kept) : Type 0 where
   pub moves : Moves f (Proving old.state) line (Proving new.state)
   pub vars : new.vars ≡ old.vars
+  pub next : new.state.next ≤ old.state.next + 1

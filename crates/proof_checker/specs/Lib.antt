@@ -3,3 +3,5 @@ pub mod Answers
 pub mod Faults
 pub mod Kept
 pub mod Tests
+pub mod Places
+pub mod Endings

@@ -5,9 +5,11 @@
 mod checker;
 mod claims;
 mod fault;
+mod judging;
 mod phase;
 mod refusal;
 mod solution;
+mod stage;
 mod state;
 mod steps;
 

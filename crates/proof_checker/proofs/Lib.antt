@@ -9,3 +9,5 @@ mod Solving
 mod Following
 mod Sizes
 mod Showing
+mod Cutting
+mod Lasts

@@ -4,7 +4,8 @@ use Rattle.pb_rows.specs.Formula.{Formula}
 use Rattle.proof_lines.specs.declared.line.Claim.{Claim}
 use Rattle.proof_lines.specs.declared.line.Line.{Line}
 use Rattle.proof_lines.specs.declared.refusal.LineKind.{LineKind}
-use Rattle.proof_lines.specs.FirstLine.{kind_of}
+use Rattle.proof_lines.specs.declared.refusal.LineRefusal.{LineRefusal}
+use Rattle.proof_lines.specs.FirstLine.{Answers, first_line, kind_of}
 use Rattle.proof_lines.specs.Spelling.{is_small_line}
 use Rattle.proof_rules.specs.Refusals as why
 use Rattle.proof_rules.specs.States.{State}
@@ -24,6 +25,10 @@ abbrev pub TooBigAt : Stage → LineKind → Fault → Type 0
 TooBigAt stage kind fault = (f : Formula) (s : State) (line : Line) → is_small_line line ≡ false → kind_of line ≡ kind → Halts f (place_of stage s) line fault
 
 -- ---- the first line
+
+-- it isn't read, for that reason
+abbrev pub IsUnread : LineRefusal → List ℕ → Type 0
+IsUnread refusal bytes = Answers (Err refusal) (first_line bytes)
 
 -- the first line has that length with its line feed, and leads on
 pub record TakesLine (f : Formula) (bytes : List ℕ) (from : Stage) (old : Kept) (to : Stage) (len : ℕ) (new : Kept) : Type 0 where

@@ -1,12 +1,12 @@
 // The verdict on a proof: its lines, one after another, and the bytes behind the last line feed.
-ghost use Rattle.std.specs.Prelude.{◌≡◌, ◌≤◌, ◌^◌, length, IfErr, IfOk, IfSome};
+ghost use Rattle.std.specs.Prelude.{◌≡◌, ◌≤◌, ◌^◌, ℕ, List, length, IfErr, IfOk, IfSome};
 ghost use Rattle.opb_text.specs.Limits.{IsWithinLimits};
 ghost use Rattle.proof_rules.specs.Texts.{HasVerdict};
 ghost use Rattle.proof_rules.specs.Sound.{HasNormalRows, IsTrueClaim};
 ghost use Rattle.proof_rules.specs.States as states;
 ghost use Rattle.pb_rows.specs.Formula as formulas;
 ghost use Rattle.proof_checker.specs.Answers.{verdict_of};
-ghost use Rattle.proof_checker.specs.Endings.{EndsWith, StopsFirst, Takes, TooBigAt};
+ghost use Rattle.proof_checker.specs.Endings.{EndsWith, IsUnread, StopsFirst, Takes, TooBigAt};
 ghost use Rattle.proof_checker.specs.Places.{HasRoomAt, IsAt, IsSoundAt, place_of};
 
 use crate::ProofRefusal;
@@ -26,6 +26,17 @@ fn too_big_at(stage: Stage, kind: LineKind) -> Fault
         (Stage::Proving, LineKind::Rup) => Fault::TooBig,
         (Stage::Closing, LineKind::Conclusion) => Fault::TooBig,
         _ => Fault::Syntax,
+    }
+}
+
+/// Why a first line that isn't read is no step.
+fn unread_at(stage: Stage, refusal: LineRefusal) -> Fault
+    ensures { (f : formulas.Formula) (s : states.State) (bytes : List ℕ) → IsUnread refusal bytes → StopsFirst f (place_of stage s) bytes result }
+{
+    match refusal {
+        LineRefusal::Syntax => Fault::Syntax,
+        LineRefusal::TooBig(kind) => too_big_at(stage, kind),
+        LineRefusal::NoMemory => Fault::NoMemory,
     }
 }
 
@@ -50,9 +61,7 @@ fn take_line(
             let next = next_stage(alloc, formula, stage, state, &line)?;
             Ok(Some((next, len)))
         }
-        Err(LineRefusal::Syntax) => Err(Fault::Syntax),
-        Err(LineRefusal::TooBig(kind)) => Err(too_big_at(stage, kind)),
-        Err(LineRefusal::NoMemory) => Err(Fault::NoMemory),
+        Err(refusal) => Err(unread_at(stage, refusal)),
     }
 }
 

@@ -11,3 +11,4 @@ mod Sizes
 mod Showing
 mod Cutting
 mod Lasts
+mod Passed

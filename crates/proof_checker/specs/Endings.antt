@@ -1,5 +1,5 @@
 -- What came of the first line of some bytes, and of the bytes behind the last line feed.
-use Rattle.std.specs.Prelude.{◌≡◌, ◌≤◌, ◌<◌, ℕ, Bool, false, List, [], ◌∷◌, length, drop, Option, Some, None, Result, Ok, Err, IfSome}
+use Rattle.std.specs.Prelude.{◌≡◌, ◌≤◌, ◌<◌, ◌+◌, ◌++◌, ℕ, Bool, false, List, [], ◌∷◌, length, drop, Option, Some, None, Result, Ok, Err, IfSome}
 use Rattle.pb_rows.specs.Formula.{Formula}
 use Rattle.proof_lines.specs.declared.line.Claim.{Claim}
 use Rattle.proof_lines.specs.declared.line.Line.{Line}
@@ -11,7 +11,7 @@ use Rattle.proof_rules.specs.Refusals as why
 use Rattle.proof_rules.specs.States.{State}
 use Rattle.proof_rules.specs.Valid as place
 use Rattle.proof_rules.specs.Valid.{Place}
-use Rattle.proof_rules.specs.Texts.{Reaches, Stops, cut, last_line, whole_lines}
+use Rattle.proof_rules.specs.Texts.{Reaches, Reading, Stops, cut, last_line, whole_lines}
 use Rattle.proof_checker.specs.declared.fault.Fault.{Fault}
 use Rattle.proof_checker.specs.declared.refusal.ProofRefusal.{ProofRefusal}
 use Rattle.proof_checker.specs.declared.refusal.ProofRefusal.TheVariants.{Syntax, Truncated}
@@ -65,3 +65,14 @@ EndsWith f here rest line (Ok claim) = Reaches f here (last_line rest) (place.Do
 EndsWith f here rest line (Err Truncated) = EndsEarly f here rest
 EndsWith f here rest line (Err (Syntax n)) = (n ≡ line) × EndsWrong f here rest
 EndsWith f here rest line (Err other) = ⊥
+
+-- ---- the lines so far
+
+-- So many lines stand before the bytes that are left, and lead to the place.
+pub record IsPassed (f : Formula) (bytes left : List ℕ) (lines : ℕ) (here : Place) : Type 0 where
+  pub done : Reading
+  pub count : length done ≡ lines
+  pub reaches : Reaches f place.Start done here
+  pub whole : whole_lines bytes ≡ done ++ whole_lines left
+  pub rest : (cut bytes).rest ≡ (cut left).rest
+  pub within : lines + length left ≤ length bytes

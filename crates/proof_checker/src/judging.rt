@@ -103,7 +103,7 @@ fn judge_lines(
     let mut stage = Stage::Start;
     let mut left = bytes;
     let mut lines = 0;
-    loop {
+    'lines: loop {
         match take_line(alloc, formula, stage, &mut state, left) {
             Ok(None) => return judge_rest(stage, left, lines + 1),
             Ok(Some((next, len))) => {

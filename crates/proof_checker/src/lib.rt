@@ -3,8 +3,15 @@
 #![tactic(auto)]
 
 mod checker;
+mod claims;
+mod fault;
+mod judging;
 mod phase;
 mod refusal;
+mod solution;
+mod stage;
+mod state;
+mod steps;
 
 pub use checker::Checker;
 pub use refusal::ProofRefusal;

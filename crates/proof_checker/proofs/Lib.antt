@@ -12,3 +12,4 @@ mod Showing
 mod Cutting
 mod Lasts
 mod Passed
+mod Judged

@@ -1,6 +1,7 @@
 -- What a checker shows of the bytes that it was fed, and for which texts it stands.
-use Rattle.std.specs.Prelude.{◌≡◌, ◌↔◌, ℕ, ◌+◌, nat_le, if◌then◌else◌, List, ◌++◌, length, Option, Some, None, Bool, true, false}
+use Rattle.std.specs.Prelude.{◌≡◌, ◌↔◌, ℕ, ◌+◌, ◌≤◌, ◌^◌, nat_le, if◌then◌else◌, List, ◌++◌, length, Option, Some, None, Bool, true, false}
 use Rattle.pb_rows.specs.Formula.{Formula}
+use Rattle.opb_text.specs.Limits.{IsWithinLimits}
 use Rattle.proof_lines.specs.Spelling.{most_bytes}
 use Rattle.proof_rules.specs.Refusals.{RefusalAt}
 use Rattle.proof_rules.specs.Valid.{Place, Start}
@@ -13,6 +14,11 @@ pub record Checked : Type 0 where
   pub formula : Formula
   pub bytes : List ℕ
   pub phase : Phase
+
+-- what a checker was fed
+pub record IsFed (formula : Formula) (bytes : List ℕ) : Type 0 where
+  pub limits : IsWithinLimits formula
+  pub few : length bytes ≤ 2 ^ 40
 
 -- it hasn't judged yet
 abbrev pub is_open : Phase → Bool

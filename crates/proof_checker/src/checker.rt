@@ -7,6 +7,7 @@ ghost use Rattle.proof_checker.specs.Standing.{StandsFor, StaysStanding, is_open
 ghost use Rattle.proof_checker.specs.Answers.{Judges};
 
 use crate::ProofRefusal;
+use crate::judging::judge;
 use crate::phase::Phase;
 use hrt_base::NoMemory;
 use opb_text::Formula;
@@ -23,14 +24,13 @@ pub struct Checker {
 }
 
 impl Model for Checker {
-    ghost use Rattle.opb_text.specs.Limits.{IsWithinLimits};
-    ghost use Rattle.proof_checker.specs.Standing.{Checked};
+    ghost use Rattle.proof_checker.specs.Standing.{Checked, IsFed};
 
     ghost Value = { Checked };
 
     ghost view = { λ c. record { formula = c.formula; bytes = c.bytes.items; phase = c.phase } };
 
-    ghost invariant = { λ c. IsWithinLimits c.formula };
+    ghost invariant = { λ c. IsFed c.formula c.bytes.items };
 }
 
 impl Checker {
@@ -70,14 +70,18 @@ impl Checker {
     }
 
     /// Judges what was fed: whether it is a valid proof, and of which claim. It is the last call.
-    pub fn finish(&mut self, _alloc: Global) -> Result<Claim, ProofRefusal>
+    pub fn finish(&mut self, alloc: Global) -> Result<Claim, ProofRefusal>
         requires { IsTrue (is_open self.old.phase) }
         ensures last { self.new ≡ record self.old { phase = Finished } }
         ensures memory { self.old.phase ≡ OutOfMemory → result ≡ Err ProofRefusal.NoMemory }
         ensures verdict { (text : List ℕ) → StandsFor text self.old → Judges self.old.formula text result }
         ensures sound { IfOk result (IsTrueClaim self.old.formula) }
     {
+        let phase = self.phase;
         self.phase = Phase::Finished;
-        Err(ProofRefusal::NoMemory)
+        if phase == Phase::OutOfMemory {
+            return Err(ProofRefusal::NoMemory);
+        }
+        judge(alloc, &self.formula, self.bytes.as_slice())
     }
 }

@@ -167,13 +167,12 @@ module _ (f : Formula) (a b : List ℕ) (same : (led : Led) → LeadsTo f a led 
       let front = reaches-front f Start (whole_lines a) (whole_lines ((cut a).rest ++ more)) place (subst (λ (lines : Reading). Reaches f Start lines place) (whole_lines-append a more) r) in
       let there = at front.0 front.1 in
       let rests : unfinished (cut a).rest ≡ unfinished (cut b).rest = sym there.2 in
-      let tails : whole_lines ((cut a).rest ++ more) ≡ whole_lines ((cut b).rest ++ more) = lines-behind (cut a).rest (cut b).rest (rest-unfinished a) (rest-unfinished b) rests more in
-      (
+      let tails : whole_lines ((cut a).rest ++ more) ≡ whole_lines ((cut b).rest ++ more) = lines-behind (cut a).rest (cut b).rest (rest-unfinished a) (rest-unfinished b) rests more in (
         subst (λ (lines : Reading). Reaches f Start lines place) (sym (whole_lines-append b more))
-        (reaches-append f Start (whole_lines b) (whole_lines ((cut b).rest ++ more)) front.0 place there.0 (subst (λ (lines : Reading). Reaches f front.0 lines place) tails front.2)),
+            (reaches-append f Start (whole_lines b) (whole_lines ((cut b).rest ++ more)) front.0 place there.0 (subst (λ (lines : Reading). Reaches f front.0 lines place) tails front.2)),
         ap length (whole_lines-append b more) ∙ length-append (whole_lines b) (whole_lines ((cut b).rest ++ more)) ∙ ap₂ (λ (n m : ℕ). n + m) there.1 (ap length (sym tails))
-        ∙ sym (length-append (whole_lines a) (whole_lines ((cut a).rest ++ more))) ∙ sym (ap length (whole_lines-append a more)),
-        ap unfinished (rest-append b more) ∙ sym (rest-behind (cut a).rest (cut b).rest (rest-unfinished a) (rest-unfinished b) rests more) ∙ sym (ap unfinished (rest-append a more))
+            ∙ sym (length-append (whole_lines a) (whole_lines ((cut a).rest ++ more))) ∙ sym (ap length (whole_lines-append a more)),
+        ap unfinished (rest-append b more) ∙ sym (rest-behind (cut a).rest (cut b).rest (rest-unfinished a) (rest-unfinished b) rests more) ∙ sym (ap unfinished (rest-append a more)),
       )
 
   -- the same of one more line, and of none
@@ -235,4 +234,3 @@ stands-fed text piece old new is s =
       reading = s.reading;
       leads = λ led. (carried old.formula old.bytes text (λ l. (s.leads l).0) piece led, carried old.formula text old.bytes (λ l. (s.leads l).1) piece led);
     })
-

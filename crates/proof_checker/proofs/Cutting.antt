@@ -52,6 +52,7 @@ later b bytes place e h = record {
   where
     one : suc place + 1 ≡ suc (place + 1)
     one = omega arith
+
     same : drop (suc place + 1) (b ∷ bytes) ≡ drop (place + 1) bytes
     same = ap (λ (n : ℕ). drop n (b ∷ bytes)) one
 

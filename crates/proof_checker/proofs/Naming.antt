@@ -56,13 +56,13 @@ other_literal : (v : ℕ) (ls : List Lit) (l : Lit) (o : Option Bool) → (l.var
 other_literal v ls l None e h = omega (arith, h, times-push v ls l ∙ ap (λ (b : Bool). times v ls + one_if b) e)
 other_literal v ls l (Some b) e h = (
   omega (arith, h.0, times-push v ls l ∙ ap (λ (b : Bool). times v ls + one_if b) e),
-  named-push v ls l ∙ or_nothing (named_point ls v) (l.var == v && not l.neg) (ap (λ (b : Bool). b && not l.neg) e) ∙ h.1
+  named-push v ls l ∙ or_nothing (named_point ls v) (l.var == v && not l.neg) (ap (λ (b : Bool). b && not l.neg) e) ∙ h.1,
 )
 
 same_literal : (v : ℕ) (ls : List Lit) (l : Lit) → (l.var == v) ≡ true → times v ls ≡ 0 → IsNamed (ls ++ l ∷ []) v (Some (not l.neg))
 same_literal v ls l e h = (
   omega (arith, h, times-push v ls l ∙ ap (λ (b : Bool). times v ls + one_if b) e),
-  named-push v ls l ∙ ap₂ (λ (a b : Bool). a || (b && not l.neg)) (unnamed v ls h) e
+  named-push v ls l ∙ ap₂ (λ (a b : Bool). a || (b && not l.neg)) (unnamed v ls h) e,
 )
 
 was_unnamed : (ls : List Lit) (v : ℕ) (o : Option Bool) → is_some o ≡ false → IsNamed ls v o → times v ls ≡ 0
@@ -136,5 +136,6 @@ named-all vars ls values bits named e = record {
     within v i =
         let parts = and_parts (nat_le 1 v) (nat_le v vars) (sym (is_in-numbers_to vars v) ∙ i) in
         record { first = leb-true 1 v parts.0; last = leb-true v vars parts.1 }
+
     here : (v : ℕ) → IsCovered vars v → (times v ls ≡ 1) × (named_point ls v ≡ get_or bits (v - 1) false)
     here v c = subst (IsNamed ls v) (value_at_place values bits (v - 1) e (omega (arith, named.size, c.first, c.last))) (named.each v c)

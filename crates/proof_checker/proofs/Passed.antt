@@ -109,7 +109,7 @@ module _ (f : Formula) (bytes left : List ℕ) (lines : ℕ) (here : Place) (p :
         e.claim,
         subst (λ (there : Place). Reaches f place.Start (whole_lines bytes) there) e.done all_reached,
         subst (λ (read : Reading). Stops f place.Start read lines why.Syntax) (sym all_are)
-        (subst (λ (n : ℕ). Stops f place.Start (p.done ++ last_line left) n why.Syntax) count (stops-after f place.Start p.done (last_line left) here 0 why.Syntax p.reaches e.stops))
+            (subst (λ (n : ℕ). Stops f place.Start (p.done ++ last_line left) n why.Syntax) count (stops-after f place.Start p.done (last_line left) here 0 why.Syntax p.reaches e.stops)),
       )
 
   pub ended : (result : Result Claim ProofRefusal) → EndsWith f here left (lines + 1) result → IfSome (verdict_of result) (HasVerdict f bytes)

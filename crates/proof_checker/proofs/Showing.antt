@@ -43,9 +43,9 @@ not_negative n h = omega (arith, ints)
 pub far_shown : (f : Formula) (s : State) (l : ℤ) (b : Bool) → IsSoundState f s → sizes f.objective ≤ 2 ^ 119 → 2 ^ 120 < all_sizes f.objective l → ((b ≡ true) ↔ ((l <ℤ pos 0) ⊎ ShowsNone s)) → (b ≡ true) ↔ ShowsLower f s (Some l)
 far_shown f s (pos n) b sound few beyond h = (
   λ e. elim (h.0 e) [ inl neg ↦ absurd (not_negative n neg) | inr none ↦ shown-above_from f s (pos n) none.0 none.1 ],
-  λ k. h.1 (inr (shown-above f s (pos n) sound (far_above n (sizes f.objective) few beyond) k))
+  λ k. h.1 (inr (shown-above f s (pos n) sound (far_above n (sizes f.objective) few beyond) k)),
 )
 far_shown f s (negsuc n) b sound few beyond h = (
   λ e. shown-below f s (negsuc n) sound (far_below n (sizes f.objective) few beyond),
-  λ k. h.1 (inl (omega (arith, ints)))
+  λ k. h.1 (inl (omega (arith, ints))),
 )

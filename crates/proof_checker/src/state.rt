@@ -81,13 +81,7 @@ fn smaller(least: Option<i128>, value: i128) -> i128
 {
     match least {
         None => value,
-        Some(before) => {
-            if value < before {
-                value
-            } else {
-                before
-            }
-        }
+        Some(before) => { if value < before { value } else { before } }
     }
 }
 
@@ -114,12 +108,7 @@ impl State {
     }
 
     /// Makes the row that steps leave on the stack.
-    pub fn row_of_steps(
-        &self,
-        alloc: Global,
-        vars: u32,
-        steps: &[PolStep],
-    ) -> Result<Row, Fault>
+    pub fn row_of_steps(&self, alloc: Global, vars: u32, steps: &[PolStep]) -> Result<Row, Fault>
         requires vars { self.now.vars ≡ vars }
         requires made { IsTrue (list_all is_made_step steps.now) }
         ensures ok { IfOk result (λ row. pol_row vars self.now.state.live steps.now ≡ Ok row) }

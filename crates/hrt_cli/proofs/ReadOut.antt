@@ -7,9 +7,7 @@ use Rattle.hrt_base.specs.declared.host.Begun.TheVariants.{Reading}
 use Rattle.hrt_base.specs.Calls.{AtStart}
 use Rattle.hrt_base.specs.World.{World, Content, put, port_no, with_rest}
 use Rattle.hrt_base.proofs.Pieces.{port_no-injective, put_here}
-use Rattle.hrt_cli.specs.declared.stop.Ended.{Ended}
-use Rattle.hrt_cli.specs.declared.stop.Ended.TheVariants as ended
-use Rattle.hrt_cli.specs.Answers.{GivesUp, IsReadOut, PassedAt, is_on_files}
+use Rattle.hrt_cli.specs.Answers.{IsReadOut, PassedAt, is_on_files}
 use Rattle.hrt_cli.specs.Inputs.{OnlyRead, but_for_rest}
 use Rattle.hrt_cli.specs.Verdicts.{Rejection, Verdict, exceeded, model_refused, pairs_refused, proof_refused, refused, rejected, status_of, truncated}
 use Rattle.hrt_cli.proofs.Runs.{put_elsewhere, reads_nothing}
@@ -48,12 +46,6 @@ then_only_read told w v u first second = record {
   writers = λ p. (λ x. (first.writers p).0 ((second.writers p).0 x), λ x. (second.writers p).1 ((first.writers p).1 x));
   content = λ t. second.content t ∙ ap (λ (c : Content). but_for_rest c u.content) (first.content t);
 }
-
-pub gives_up_after : (told : Type 0) (why : Ended) (old mid new : World) → OnlyRead told old mid → GivesUp told why mid new → GivesUp told why old new
-gives_up_after told ended.ReadFault old mid new first up =
-    record { only_read = then_only_read told old mid new first up.only_read; rose = omega (arith, first.later, up.rose) }
-gives_up_after told ended.WriteFault old mid new first up = absurd up
-gives_up_after told ended.NoMemory old mid new first up = then_only_read told old mid new first up
 
 -- a file that isn't taken is told of
 pub rejection_on_files : (rejection : Rejection) → IsTrue (is_on_files (status_of (rejected rejection)))

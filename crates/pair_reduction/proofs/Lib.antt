@@ -1,0 +1,4 @@
+mod Quiet
+mod AtMost
+mod RuleA
+mod RuleB

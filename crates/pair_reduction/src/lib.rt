@@ -1,0 +1,2 @@
+//! Pairs that two rules show to be in no weakly stable matching are deleted, each by a line of the proof.
+#![tactic(auto)]

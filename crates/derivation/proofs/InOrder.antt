@@ -9,7 +9,7 @@ use Rattle.pb_rows.specs.Formula.{NumberedRow, numbered_from}
 use Rattle.proof_rules.specs.States.{AreNumbered, deleted}
 use Rattle.proof_rules.proofs.Numbers.{numbered-deleted, numbered-from, numbered-push}
 
-end_above : (low high : ℕ) (entries : List NumberedRow) → AreNumbered low high entries → low ≤ high
+pub end_above : (low high : ℕ) (entries : List NumberedRow) → AreNumbered low high entries → low ≤ high
 end_above low high [] n = n
 end_above low high (e ∷ es) n = omega (arith, n.0, end_above (e.number + 1) high es n.1)
 

@@ -1,0 +1,3 @@
+pub mod Ceiling
+pub mod Steps
+pub mod Bound

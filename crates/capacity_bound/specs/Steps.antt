@@ -1,0 +1,59 @@
+-- The steps of the line that makes the bound row.
+use Rattle.std.specs.Prelude.{ℕ, true, not, nat_le, nat_lt, if◌then◌else◌, List, [], ◌∷◌, length, map, flat_map, count_by, Option, Some, None}
+use Rattle.std.specs.List.{list_any}
+use Rattle.hrt_base.specs.declared.numbered.RowNo.{RowNo}
+use Rattle.rank_tables.specs.Numbers.{below}
+use Rattle.rank_tables.specs.Instance.{Lists, capacity_of, pairs_as_listed, pairs_of_hospital, pairs_of_resident}
+use Rattle.stability_model.specs.Model.{hospital_row_no, resident_row_no}
+use Rattle.stability_model.specs.Gone.{posts_left, residents_left}
+use Rattle.proof_lines.specs.declared.line.PolStep.{PolStep}
+use Rattle.proof_lines.specs.declared.line.PolStep.TheVariants.{Id, Axiom, Add}
+use Rattle.proof_lines.specs.Spelling.{row_no}
+use Rattle.derivation.specs.Deletions.{Deletions, is_deleted, unit_of}
+
+-- ---- operands: each names a row that is added
+
+-- the row `~x >= 1` of a deleted pair, and `~x >= 0` for another one
+abbrev pub unit_or_axiom : ℕ → Option RowNo → PolStep
+unit_or_axiom p None = Axiom (record { var = p; neg = true })
+unit_or_axiom p (Some id) = Id id
+
+abbrev pub pair_operand : Deletions → ℕ → PolStep
+pair_operand map p = unit_or_axiom p (unit_of map p)
+
+-- a row of the model
+abbrev pub row_operand : Option ℕ → List PolStep
+row_operand None = []
+row_operand (Some k) = Id (row_no k) ∷ []
+
+-- a resident with a pair that is left gives its row, another the rows of its pairs
+abbrev pub resident_operands : Lists → Deletions → ℕ → List PolStep
+resident_operands lists deletions r =
+    if list_any (λ p. not (is_deleted deletions p)) (pairs_of_resident lists r) then row_operand (resident_row_no lists r)
+    else map (pair_operand deletions) (pairs_of_resident lists r)
+
+-- a hospital with more pairs left than posts gives its row, another the rows of its pairs
+abbrev pub hospital_operands : Lists → Deletions → ℕ → List PolStep
+hospital_operands lists deletions h =
+    if nat_lt (capacity_of lists h) (count_by (λ p. not (is_deleted deletions p)) (pairs_of_hospital lists h)) then row_operand (hospital_row_no lists h)
+    else map (pair_operand deletions) (pairs_as_listed lists h)
+
+-- by residents where they are no more than the posts, else by hospitals
+abbrev pub bound_operands : Lists → Deletions → List PolStep
+bound_operands lists deletions =
+    if nat_le (residents_left lists (is_deleted deletions)) (posts_left lists (is_deleted deletions))
+    then flat_map (resident_operands lists deletions) (below (length lists.residents))
+    else flat_map (hospital_operands lists deletions) (below (length lists.hospitals))
+
+-- ---- their sum
+
+abbrev pub added_on : PolStep → List PolStep
+added_on operand = operand ∷ Add ∷ []
+
+-- the rows are added one after another
+abbrev pub added : List PolStep → List PolStep
+added [] = []
+added (operand ∷ operands) = operand ∷ flat_map added_on operands
+
+abbrev pub bound_steps : Lists → Deletions → List PolStep
+bound_steps lists deletions = added (bound_operands lists deletions)

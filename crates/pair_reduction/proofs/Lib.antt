@@ -2,3 +2,4 @@ mod Quiet
 mod AtMost
 mod RuleA
 mod RuleB
+mod Tested

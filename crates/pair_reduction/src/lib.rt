@@ -2,5 +2,6 @@
 #![tactic(auto)]
 
 mod passes;
+mod rules;
 
 pub use passes::reduce;

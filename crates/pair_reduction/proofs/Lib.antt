@@ -3,3 +3,5 @@ mod AtMost
 mod RuleA
 mod RuleB
 mod Tested
+mod OfferRun
+mod OfferRow

@@ -5,3 +5,5 @@ mod RuleB
 mod Tested
 mod OfferRun
 mod OfferRow
+mod Writable
+mod OfferMade

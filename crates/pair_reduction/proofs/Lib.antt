@@ -7,3 +7,4 @@ mod OfferRun
 mod OfferRow
 mod Writable
 mod OfferMade
+mod UnitMade

@@ -1,14 +1,23 @@
 -- What a reduction leaves.
-use Rattle.std.specs.Prelude.{◌≡◌, ℕ, ◌+◌, ◌*◌, ◌-◌, ◌≤◌, ◌^◌, true, false, List, length, Some}
+use Rattle.std.specs.Prelude.{Bool, ◌&&◌, nat_lt, count_by, ◌≡◌, ℕ, ◌+◌, ◌*◌, ◌≤◌, true, false, ◌⊎◌, List, length, Some}
 use Rattle.pb_rows.specs.Terms.{PlainRow}
-use Rattle.pb_rows.specs.Formula.{row_of}
-use Rattle.rank_tables.specs.Numbers.{is_in}
-use Rattle.rank_tables.specs.Instance.{Lists, pair_count}
+use Rattle.hrt_base.specs.declared.numbered.RowNo.{RowNo}
+use Rattle.pb_rows.specs.Formula.{NumberedRow, is_numbered, row_of}
+use Rattle.rank_tables.specs.Numbers.{is_distinct, is_in}
+use Rattle.rank_tables.specs.Instance.{Lists, capacity_of, pair_at, pairs_of_hospital, rank_by_hospital}
+use Rattle.rank_tables.specs.Tables.{IsPairNo}
+use Rattle.stability_model.specs.Gone.{has_only}
 use Rattle.rank_tables.specs.Stability.{is_weakly_stable}
-use Rattle.proof_rules.specs.Held.{Held, keeping}
-use Rattle.derivation.specs.Deletions.{AreUnitRows, Deletions, deleted_count, is_deleted, unit_of}
+use Rattle.proof_lines.specs.declared.line.Line.TheVariants.{Rup}
+use Rattle.proof_lines.specs.declared.note.Note.TheVariants.{Unit as UnitRow}
+use Rattle.proof_lines.specs.Spelling.{row_no}
+use Rattle.proof_lines.specs.Texts.{line_text}
+use Rattle.proof_rules.specs.Held.{keeping, row_numbers}
+use Rattle.derivation.specs.Deletions.{Deletions, deleted_count, is_deleted, unit_of, unit_row}
 use Rattle.derivation.specs.Derived.{Derived, StaysValid}
 use Rattle.derivation.specs.Ready.{IsReady}
+use Rattle.derivation.specs.Steps.{with_new_row, with_note, written_of}
+use Rattle.pair_reduction.specs.Offers.{offer_row}
 
 -- no weakly stable matching has a pair that is deleted
 abbrev pub AreInNone : Lists → Deletions → Type 0
@@ -35,3 +44,44 @@ pub record HoldsUnits (old new : Derived) (deletions : Deletions) : Type 0 where
 -- at most 20,001 rows were made for each of so many pairs
 abbrev pub MakesFew : ℕ → Derived → Derived → Type 0
 MakesFew pairs old new = new.state.next ≤ old.state.next + 20001 * pairs
+
+-- the unit row of a pair was made by a `rup` line, and a note names it
+abbrev pub with_unit_row : ℕ → Derived → Derived
+with_unit_row p d = with_new_row (unit_row p) (line_text (Rup (written_of (unit_row p)))) d
+
+abbrev pub with_unit : ℕ → Derived → Derived
+with_unit p d = with_note (UnitRow (row_no d.state.next)) (with_unit_row p d)
+
+-- where memory was wanting nothing was done, or all but the note
+abbrev pub StopsAtUnit : ℕ → Derived → Derived → Type 0
+StopsAtUnit p old new = (new ≡ old) ⊎ (new ≡ with_unit_row p old)
+
+-- ---- rows that are made for a while
+
+-- so many rows were made, and nothing else was done
+pub record Adds (old new : Derived) (rows : ℕ) : Type 0 where
+  pub goes_on : GoesOn old new
+  pub kept : KeepsLive old new
+  pub ready : IsReady new
+  pub held : new.held ≡ old.held
+  pub next : new.state.next ≡ old.state.next + rows
+
+-- a resident that the hospital of p strictly prefers and that has nothing else
+abbrev pub is_offering : Lists → Deletions → ℕ → ℕ → Bool
+is_offering lists deletions p q = nat_lt (rank_by_hospital lists q) (rank_by_hospital lists p) && has_only lists (is_deleted deletions) q
+
+-- the numbers of rows that were made since: each once, each live, from so many on
+pub record AreMade (from : ℕ) (live : List NumberedRow) (ids : List RowNo) : Type 0 where
+  pub distinct : is_distinct (row_numbers ids) ≡ true
+  pub each : (n : ℕ) → is_in n (row_numbers ids) ≡ true → (from ≤ n) × (is_numbered n live ≡ true)
+
+-- so many of the pairs are offering, and the row of each of these offers is live
+pub record HaveOffers (lists : Lists) (deletions : Deletions) (p : ℕ) (qs : List ℕ) (live : List NumberedRow) (count : ℕ) : Type 0 where
+  pub counts : count ≡ count_by (is_offering lists deletions p) qs
+  pub rows : (q : ℕ) → is_in q qs ≡ true → is_offering lists deletions p q ≡ true → (n : ℕ) × (row_of n live ≡ Some (offer_row lists q))
+
+-- some pairs of the hospital of p, as many as it has posts, are offering, and the rows of their offers are live
+pub record HasOffers (lists : Lists) (deletions : Deletions) (p : ℕ) (live : List NumberedRow) : Type 0 where
+  pub offered : ℕ → Bool
+  pub enough : capacity_of lists (pair_at lists p).hospital ≤ count_by (λ q. nat_lt (rank_by_hospital lists q) (rank_by_hospital lists p) && offered q) (pairs_of_hospital lists (pair_at lists p).hospital)
+  pub rows : (q : ℕ) → IsPairNo lists q → offered q ≡ true → (n : ℕ) × (row_of n live ≡ Some (offer_row lists q))

@@ -4,5 +4,6 @@
 mod offers;
 mod passes;
 mod rules;
+mod units;
 
 pub use passes::reduce;

@@ -1,17 +1,19 @@
 // Offers: for a resident that has nothing else left than a pair, the row that this pair is taken where its hospital takes one
 // that it ranks lower.
-ghost use Rattle.std.specs.Prelude.{◌≡◌, ◌<◌, ◌≤◌, ◌++◌, ◌^◌, IfOk, OnErr, OnOk, length, pos, true};
+ghost use Rattle.std.specs.Prelude.{◌≡◌, ◌+◌, ◌<◌, ◌≤◌, ◌++◌, ◌^◌, IfOk, OnErr, OnOk, length, pos, true};
 ghost use Rattle.rank_tables.specs.Instance.{capacity_of, pair_at, pairs_of_hospital};
 ghost use Rattle.rank_tables.specs.Tables.{IsPairNo};
 ghost use Rattle.rank_tables.specs.WellFormed.{IsWellFormed};
-ghost use Rattle.stability_model.specs.Gone.{has_only};
+ghost use Rattle.stability_model.specs.Gone.{has_only, rule_b};
 ghost use Rattle.proof_lines.specs.Texts.{line_text};
 ghost use Rattle.derivation.specs.Deletions.{AreUnitRows, is_deleted};
 ghost use Rattle.derivation.specs.Derived.{StaysValid};
 ghost use Rattle.derivation.specs.Ready.{IsReady};
 ghost use Rattle.derivation.specs.Steps.{with_new_row};
 ghost use Rattle.pair_reduction.specs.Offers.{before_steps, offer_row, offer_steps, row_steps, unit_steps};
+ghost use Rattle.pair_reduction.specs.Reduced.{Adds, AreMade, GoesOn, HasOffers};
 
+use crate::rules::has_only;
 use derivation::{Deleted, Derivation};
 use hrt_base::{NoMemory, PairNo, RowNo};
 use proof_lines::{Line, PolStep};
@@ -114,4 +116,41 @@ pub(crate) fn offer(
         Ok(id) => Ok(id),
         Err(_) => Err(NoMemory),
     }
+}
+
+/// Makes the rows of so many offers to the hospital of p as it has posts, from residents that it strictly prefers.
+pub(crate) fn offers(
+    alloc: Global,
+    model: &Model,
+    deriv: &mut Derivation,
+    gone: &Deleted,
+    p: PairNo,
+) -> Result<Vec<RowNo>, NoMemory>
+    requires model { model.now ≡ deriv.old.lists }
+    requires ready { IsReady deriv.old }
+    requires units { AreUnitRows deriv.old.state.live gone.now }
+    requires p { IsPairNo model.now p.0 }
+    requires rule { rule_b model.now (is_deleted gone.now) p.0 ≡ true }
+    requires next { deriv.old.state.next + 20000 < 10 ^ 18 }
+    ensures adds { IfOk result (λ ids. Adds deriv.old deriv.new (length ids.items)) }
+    ensures made { IfOk result (λ ids. AreMade deriv.old.state.next deriv.new.state.live ids.items) }
+    ensures few { IfOk result (λ ids. length ids.items ≤ 20000) }
+    ensures offers { OnOk result (HasOffers model.now gone.now p.0 deriv.new.state.live) }
+    ensures goes_on { GoesOn deriv.old deriv.new }
+    ensures next { deriv.new.state.next ≤ deriv.old.state.next + 20000 }
+{
+    let inst = model.instance();
+    let hospital = inst.hospital_of(p);
+    let posts = inst.capacity(hospital) as usize;
+    let mut ids = Vec::new(alloc);
+    for q in inst.pairs_of_hospital(hospital) {
+        if ids.len() >= posts {
+            return Ok(ids);
+        }
+        if inst.rank_by_hospital(*q) < inst.rank_by_hospital(p) && has_only(inst, gone, *q) {
+            let id = offer(alloc, model, deriv, gone, *q)?;
+            ids.push(id)?;
+        }
+    }
+    Ok(ids)
 }

@@ -8,3 +8,4 @@ mod OfferRow
 mod Writable
 mod OfferMade
 mod UnitMade
+mod Offering

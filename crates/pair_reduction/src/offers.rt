@@ -6,6 +6,7 @@ ghost use Rattle.rank_tables.specs.Tables.{IsPairNo};
 ghost use Rattle.rank_tables.specs.WellFormed.{IsWellFormed};
 ghost use Rattle.stability_model.specs.Gone.{has_only, rule_b};
 ghost use Rattle.proof_lines.specs.Texts.{line_text};
+ghost use Rattle.proof_rules.specs.States.{IsInOrder};
 ghost use Rattle.derivation.specs.Deletions.{AreUnitRows, is_deleted};
 ghost use Rattle.derivation.specs.Derived.{StaysValid};
 ghost use Rattle.derivation.specs.Ready.{IsReady};
@@ -106,6 +107,7 @@ pub(crate) fn offer(
     ensures made { OnOk result (deriv.new ≡ with_new_row (offer_row model.now q.0) (line_text (Line.Pol (offer_steps model.now gone.now q.0))) deriv.old) }
     ensures err { OnErr result (deriv.new ≡ deriv.old) }
     ensures valid { StaysValid deriv.old deriv.new }
+    ensures order { IsInOrder deriv.old.state }
 {
     let inst = model.instance();
     let hospital = inst.hospital_of(q);
@@ -143,7 +145,8 @@ pub(crate) fn offers(
     let hospital = inst.hospital_of(p);
     let posts = inst.capacity(hospital) as usize;
     let mut ids = Vec::new(alloc);
-    for q in inst.pairs_of_hospital(hospital) {
+    let pairs = inst.pairs_of_hospital(hospital);
+    for q in pairs {
         if ids.len() >= posts {
             return Ok(ids);
         }

@@ -1,8 +1,8 @@
 -- Offers one after another: the rows that are made.
-use Rattle.std.proofs.Common.{◌≡◌, ℕ, zero, suc, ◌+◌, ◌-◌, ◌<◌, ◌≤◌, ◌^◌, Bool, true, false, ◌&&◌, ◌||◌, ◌==◌, List, [], ◌∷◌, ◌++◌, nat_lt, if◌then◌else◌, length, map, take, get_or, count_by, refl, sym, ap, ap₂, ◌∙◌, subst, inl, inr, arith}
+use Rattle.std.proofs.Common.{◌≡◌, ℕ, zero, suc, ◌+◌, ◌-◌, ◌<◌, ◌≤◌, ◌^◌, Bool, true, false, not, ◌&&◌, ◌||◌, ◌==◌, List, [], ◌∷◌, ◌++◌, nat_lt, if◌then◌else◌, length, map, take, get_or, count_by, refl, sym, ap, ap₂, ◌∙◌, subst, inl, inr, arith}
 use Rattle.std.specs.Prelude.{Option, Some, None, IfSome}
-use Rattle.std.proofs.lemmas.Bool.{and_from, and_parts, cases_Bool, eq-eqb, eqb-true, false_from_ne_true, leb-true, or_cases, true≢false}
-use Rattle.std.proofs.lemmas.List.{length-append, take_all}
+use Rattle.std.proofs.lemmas.Bool.{and_from, and_parts, cases_Bool, eq-eqb, eqb-true, false_from_ne_true, leb-true, le-ltb, lt-ltb, not-true, not_from_false, or_cases, or_left, or_right, true≢false}
+use Rattle.std.proofs.lemmas.List.{length-append, take_more}
 use Rattle.std.proofs.lemmas.List.Sums.{count_by-le-length, sum_by_push}
 use Rattle.hrt_base.specs.declared.numbered.RowNo.{RowNo}
 use Rattle.hrt_base.specs.declared.numbered.PairNo.{PairNo}
@@ -12,7 +12,7 @@ use Rattle.rank_tables.specs.Numbers.{is_distinct, is_in, numbers_to}
 use Rattle.rank_tables.specs.Instance.{Lists, capacity_of, pair_at, pair_count, pairs_of_hospital, rank_by_hospital}
 use Rattle.rank_tables.specs.Tables.{IsPairNo, numbers_of}
 use Rattle.rank_tables.proofs.Numbers.{all_from, distinct-filter, distinct-numbers_to, distinct_push}
-use Rattle.stability_model.specs.Gone.{has_only}
+use Rattle.stability_model.specs.Gone.{has_only, rule_b}
 use Rattle.stability_model.proofs.Counts.{count_by_le, count_in_list}
 use Rattle.proof_rules.specs.Held.{row_numbers}
 use Rattle.proof_rules.specs.States.{AreNumbered, IsInOrder}
@@ -25,6 +25,7 @@ use Rattle.derivation.specs.Ready.{IsReady}
 use Rattle.derivation.specs.Steps.{with_new_row}
 use Rattle.derivation.proofs.Readiness.{ready_row, row_front, row_last, row_numbered}
 use Rattle.pair_reduction.specs.Offers.{offer_row}
+use Rattle.pair_reduction.proofs.Tested.{listed_count}
 use Rattle.pair_reduction.specs.Reduced.{Adds, AreMade, GoesOn, HaveOffers, HasOffers, KeepsLive, is_offering}
 
 -- ---- going on
@@ -212,3 +213,77 @@ has_offers lists deletions p qs live count have distinct within enough = record 
       omega (arith, have.counts, same, le, enough);
   rows = λ q i o. let two = and_parts (is_in q qs) (is_offering lists deletions p q) o in have.rows q two.0 two.1;
 }
+
+-- ---- from the calls
+
+pub offering_as : (lists : Lists) (start new now : Derived) (deletions : Deletions) (p posts : ℕ) (qs : List ℕ) (ids more : List RowNo) → now ≡ new → more ≡ ids → Offering lists start new deletions p posts qs ids → Offering lists start now deletions p posts qs more
+offering_as lists start new now deletions p posts qs ids more e f o = subst (λ (d : Derived). Offering lists start d deletions p posts qs more) (sym e) (subst (λ (xs : List RowNo). Offering lists start new deletions p posts qs xs) (sym f) o)
+
+pair_push : (ps : List PairNo) (p : PairNo) → numbers_of (ps ++ p ∷ []) ≡ numbers_of ps ++ p.0 ∷ []
+pair_push [] p = refl
+pair_push (x ∷ ps) p = ap (λ (ns : List ℕ). x.0 ∷ ns) (pair_push ps p)
+
+pub next_number : (ps : List PairNo) (i : ℕ) (d : PairNo) → i < length ps → numbers_of (take (i + 1) ps) ≡ numbers_of (take i ps) ++ (get_or ps i d).0 ∷ []
+next_number ps i d h = ap numbers_of (take_more ps i d h) ∙ pair_push (take i ps) (get_or ps i d)
+
+pub is_offering_by : (inst lists : Lists) (deletions : Deletions) (p q x y : ℕ) → inst ≡ lists → x ≡ rank_by_hospital inst q → y ≡ rank_by_hospital inst p → x < y → has_only inst (is_deleted deletions) q ≡ true → is_offering lists deletions p q ≡ true
+is_offering_by inst lists deletions p q x y same e f less only =
+    subst (λ (l : Lists). is_offering l deletions p q ≡ true) same
+    (and_from (nat_lt (rank_by_hospital inst q) (rank_by_hospital inst p)) (has_only inst (is_deleted deletions) q) (lt-ltb (rank_by_hospital inst q) (rank_by_hospital inst p) (omega arith)) only)
+
+not_both : (a b : Bool) → b ≡ false → (a && b) ≡ false
+not_both true b e = e
+not_both false b e = refl
+
+not_first : (a b : Bool) → a ≡ false → (a && b) ≡ false
+not_first true b e = absurd (cc)
+not_first false b e = refl
+
+pub no_offer_by_only : (inst lists : Lists) (deletions : Deletions) (p q : ℕ) → inst ≡ lists → has_only inst (is_deleted deletions) q ≡ false → is_offering lists deletions p q ≡ false
+no_offer_by_only inst lists deletions p q same e =
+    subst (λ (l : Lists). is_offering l deletions p q ≡ false) same (not_both (nat_lt (rank_by_hospital inst q) (rank_by_hospital inst p)) (has_only inst (is_deleted deletions) q) e)
+
+pub no_offer_by_rank : (inst lists : Lists) (deletions : Deletions) (p q x y : ℕ) → inst ≡ lists → x ≡ rank_by_hospital inst q → y ≡ rank_by_hospital inst p → y ≤ x → is_offering lists deletions p q ≡ false
+no_offer_by_rank inst lists deletions p q x y same e f le =
+    subst (λ (l : Lists). is_offering l deletions p q ≡ false) same
+    (not_first (nat_lt (rank_by_hospital inst q) (rank_by_hospital inst p)) (has_only inst (is_deleted deletions) q) (le-ltb (rank_by_hospital inst q) (rank_by_hospital inst p) (omega arith)))
+
+-- ---- the end of the loop
+
+in_front_of : (i y : ℕ) (xs : List ℕ) → is_in y (take i xs) ≡ true → is_in y xs ≡ true
+in_front_of zero y xs h = absurd (true≢false (sym h))
+in_front_of (suc i) y [] h = h
+in_front_of (suc i) y (x ∷ xs) h = elim (or_cases (x == y) (is_in y (take i xs)) h) [
+  | inl e ↦ or_left (x == y) (is_in y xs) e
+  | inr e ↦ or_right (x == y) (is_in y xs) (in_front_of i y xs e)
+]
+
+distinct_front : (i : ℕ) (xs : List ℕ) → is_distinct xs ≡ true → is_distinct (take i xs) ≡ true
+distinct_front zero xs d = refl
+distinct_front (suc i) [] d = refl
+distinct_front (suc i) (x ∷ xs) d =
+    let parts = and_parts (not (is_in x xs)) (is_distinct xs) d in
+    and_from (not (is_in x (take i xs))) (is_distinct (take i xs)) (not_from_false (is_in x (take i xs)) (false_from_ne_true (is_in x (take i xs)) (λ h. true≢false (sym (in_front_of i x xs h) ∙ not-true (is_in x xs) parts.0)))) (distinct_front i xs parts.1)
+
+numbers_front : (i : ℕ) (ps : List PairNo) → numbers_of (take i ps) ≡ take i (numbers_of ps)
+numbers_front zero ps = refl
+numbers_front (suc i) [] = refl
+numbers_front (suc i) (p ∷ ps) = ap (λ (ns : List ℕ). p.0 ∷ ns) (numbers_front i ps)
+
+pub ends_with_offers : (inst lists : Lists) (start now : Derived) (deletions : Deletions) (p h posts i : ℕ) (ps : List PairNo) (ids : List RowNo) → inst ≡ lists → h ≡ (pair_at inst p).hospital → posts ≡ capacity_of inst h → is_distinct (numbers_of ps) ≡ true →
+    ((q : ℕ) → is_in q (numbers_of ps) ≡ is_in q (pairs_of_hospital inst h)) → Offering lists start now deletions p posts (numbers_of (take i ps)) ids → posts ≤ length ids → HasOffers lists deletions p now.state.live
+ends_with_offers inst lists start now deletions p h posts i ps ids same hospital capacity distinct alike o enough =
+    let posts_are : posts ≡ capacity_of lists (pair_at lists p).hospital = capacity ∙ ap (capacity_of inst) hospital ∙ ap (λ (l : Lists). capacity_of l (pair_at l p).hospital) same in
+    has_offers lists deletions p (numbers_of (take i ps)) now.state.live (length ids) o.have (ap is_distinct (numbers_front i ps) ∙ distinct_front i (numbers_of ps) distinct)
+    (λ q k. ap (is_in q) (ap (pairs_of_hospital lists) (ap (λ (l : Lists). (pair_at l p).hospital) (sym same) ∙ sym hospital) ∙ ap (λ (l : Lists). pairs_of_hospital l h) (sym same))
+    ∙ sym (alike q) ∙ in_front_of i q (numbers_of ps) (ap (is_in q) (sym (numbers_front i ps)) ∙ k)) (omega arith)
+
+pub all_are_enough : (inst lists : Lists) (start now : Derived) (deletions : Deletions) (p h posts i : ℕ) (ps : List PairNo) (ids : List RowNo) → inst ≡ lists → h ≡ (pair_at inst p).hospital → posts ≡ capacity_of inst h → is_distinct (numbers_of ps) ≡ true →
+    ((q : ℕ) → is_in q (numbers_of ps) ≡ is_in q (pairs_of_hospital inst h)) → length ps ≤ i → rule_b lists (is_deleted deletions) p ≡ true → Offering lists start now deletions p posts (numbers_of (take i ps)) ids → posts ≤ length ids
+all_are_enough inst lists start now deletions p h posts i ps ids same hospital capacity distinct alike all rule o =
+    let posts_are : posts ≡ capacity_of lists (pair_at lists p).hospital = capacity ∙ ap (capacity_of inst) hospital ∙ ap (λ (l : Lists). capacity_of l (pair_at l p).hospital) same in
+    let where_it_is : h ≡ (pair_at lists p).hospital = hospital ∙ ap (λ (l : Lists). (pair_at l p).hospital) same in
+    let counted : count_by (is_offering lists deletions p) (numbers_of (take i ps)) ≡ count_by (is_offering lists deletions p) (pairs_of_hospital lists (pair_at lists p).hospital) =
+    listed_count lists h (pair_at lists p).hospital (is_offering lists deletions p) ps i where_it_is all distinct (λ q. alike q ∙ ap (λ (l : Lists). is_in q (pairs_of_hospital l h)) same) in
+    let enough : capacity_of lists (pair_at lists p).hospital ≤ count_by (is_offering lists deletions p) (pairs_of_hospital lists (pair_at lists p).hospital) = leb-true (capacity_of lists (pair_at lists p).hospital) _ rule in
+    omega (arith, o.have.counts, counted, enough)

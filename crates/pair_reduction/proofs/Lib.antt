@@ -9,3 +9,4 @@ mod Writable
 mod OfferMade
 mod UnitMade
 mod Offering
+mod Implied

@@ -47,7 +47,7 @@ model_row lists d k w same ready first is =
     let is_so : slice_get (rows d.lists) (k - 1) ≡ Some (in_normal_form w) = ap (λ (l : Lists). slice_get (rows l) (k - 1)) (sym same) ∙ is in
     ready.model_live k first (let l = got_within (rows d.lists) (k - 1) (in_normal_form w) is_so in omega arith) ∙ is_so
 
-has_one : (q : ℕ) (ps : List ℕ) → is_in q ps ≡ true → has_any ps ≡ true
+pub has_one : (q : ℕ) (ps : List ℕ) → is_in q ps ≡ true → has_any ps ≡ true
 has_one q [] i = absurd (cc)
 has_one q (p ∷ ps) i = refl
 

@@ -10,3 +10,4 @@ mod OfferMade
 mod UnitMade
 mod Offering
 mod Implied
+mod Forgets

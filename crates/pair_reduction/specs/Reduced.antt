@@ -1,5 +1,5 @@
 -- What a reduction leaves.
-use Rattle.std.specs.Prelude.{Bool, ◌&&◌, nat_lt, count_by, ◌≡◌, ℕ, ◌+◌, ◌*◌, ◌≤◌, true, false, ◌⊎◌, List, length, Some}
+use Rattle.std.specs.Prelude.{[], ◌∷◌, ◌-◌, slice_set, Bool, ◌&&◌, nat_lt, count_by, ◌≡◌, ℕ, ◌+◌, ◌*◌, ◌≤◌, true, false, ◌⊎◌, List, length, Some}
 use Rattle.pb_rows.specs.Terms.{PlainRow}
 use Rattle.hrt_base.specs.declared.numbered.RowNo.{RowNo}
 use Rattle.pb_rows.specs.Formula.{NumberedRow, is_numbered, row_of}
@@ -85,3 +85,15 @@ pub record HasOffers (lists : Lists) (deletions : Deletions) (p : ℕ) (live : L
   pub offered : ℕ → Bool
   pub enough : capacity_of lists (pair_at lists p).hospital ≤ count_by (λ q. nat_lt (rank_by_hospital lists q) (rank_by_hospital lists p) && offered q) (pairs_of_hospital lists (pair_at lists p).hospital)
   pub rows : (q : ℕ) → IsPairNo lists q → offered q ≡ true → (n : ℕ) × (row_of n live ≡ Some (offer_row lists q))
+
+-- ---- one pair
+
+-- pair p was deleted: its row is live, is marked and is held, and nothing else is left of what was made
+pub record Deletes (old new : Derived) (before after : Deletions) (p : ℕ) : Type 0 where
+  pub id : ℕ
+  pub goes_on : GoesOn old new
+  pub kept : KeepsLive old new
+  pub ready : IsReady new
+  pub held : new.held ≡ keeping (id ∷ []) old.held
+  pub marked : after ≡ slice_set before (p - 1) (Some (row_no id))
+  pub row : row_of id new.state.live ≡ Some (unit_row p)

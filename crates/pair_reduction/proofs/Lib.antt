@@ -11,3 +11,4 @@ mod UnitMade
 mod Offering
 mod Implied
 mod Forgets
+mod Deleting

@@ -126,3 +126,7 @@ forgot ids old new can taken =
       next = ap (λ (s : State). s.next) state;
       others = λ n i. ap (λ (s : State). row_of n s.live) state ∙ l.others n i;
     }
+
+pub some_there : (n m : ℕ) → n ≡ m → (n == 0) ≡ false → 0 < m
+some_there zero m e f = absurd (true≢false f)
+some_there (suc n) m e f = omega arith

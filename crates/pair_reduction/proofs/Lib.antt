@@ -12,3 +12,4 @@ mod Offering
 mod Implied
 mod Forgets
 mod Deleting
+mod Reducing

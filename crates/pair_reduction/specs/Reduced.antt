@@ -1,19 +1,19 @@
 -- What a reduction leaves.
-use Rattle.std.specs.Prelude.{[], ◌∷◌, ◌-◌, slice_set, Bool, ◌&&◌, nat_lt, count_by, ◌≡◌, ℕ, ◌+◌, ◌*◌, ◌≤◌, true, false, ◌⊎◌, List, length, Some}
+use Rattle.std.specs.Prelude.{◌||◌, ◌^◌, [], ◌∷◌, ◌-◌, slice_set, Bool, ◌&&◌, nat_lt, count_by, ◌≡◌, ℕ, ◌+◌, ◌*◌, ◌≤◌, true, false, ◌⊎◌, List, length, Some}
 use Rattle.pb_rows.specs.Terms.{PlainRow}
 use Rattle.hrt_base.specs.declared.numbered.RowNo.{RowNo}
 use Rattle.pb_rows.specs.Formula.{NumberedRow, is_numbered, row_of}
 use Rattle.rank_tables.specs.Numbers.{is_distinct, is_in}
-use Rattle.rank_tables.specs.Instance.{Lists, capacity_of, pair_at, pairs_of_hospital, rank_by_hospital}
+use Rattle.rank_tables.specs.Instance.{Lists, capacity_of, pair_at, pair_count, pairs_of_hospital, rank_by_hospital}
 use Rattle.rank_tables.specs.Tables.{IsPairNo}
-use Rattle.stability_model.specs.Gone.{has_only}
+use Rattle.stability_model.specs.Gone.{Gone, has_only, rule_a, rule_b}
 use Rattle.rank_tables.specs.Stability.{is_weakly_stable}
 use Rattle.proof_lines.specs.declared.line.Line.TheVariants.{Rup}
 use Rattle.proof_lines.specs.declared.note.Note.TheVariants.{Unit as UnitRow}
 use Rattle.proof_lines.specs.Spelling.{row_no}
 use Rattle.proof_lines.specs.Texts.{line_text}
 use Rattle.proof_rules.specs.Held.{keeping, row_numbers}
-use Rattle.derivation.specs.Deletions.{Deletions, deleted_count, is_deleted, unit_of, unit_row}
+use Rattle.derivation.specs.Deletions.{AreUnitRows, Deletions, deleted_count, is_deleted, unit_of, unit_row}
 use Rattle.derivation.specs.Derived.{Derived, StaysValid}
 use Rattle.derivation.specs.Ready.{IsReady}
 use Rattle.derivation.specs.Steps.{with_new_row, with_note, written_of}
@@ -97,3 +97,30 @@ pub record Deletes (old new : Derived) (before after : Deletions) (p : ℕ) : Ty
   pub held : new.held ≡ keeping (id ∷ []) old.held
   pub marked : after ≡ slice_set before (p - 1) (Some (row_no id))
   pub row : row_of id new.state.live ≡ Some (unit_row p)
+
+-- ---- several pairs
+
+-- what is asked for before more pairs are deleted
+pub record CanReduce (lists : Lists) (d : Derived) (deletions : Deletions) : Type 0 where
+  pub same : lists ≡ d.lists
+  pub ready : IsReady d
+  pub units : AreUnitRows d.state.live deletions
+  pub pairs : length deletions ≡ pair_count lists
+  pub gone : (p : ℕ) → is_deleted deletions p ≡ true → Gone lists p
+  pub room : d.state.next + 20001 * (pair_count lists - deleted_count deletions) ≤ 10 ^ 18
+
+-- some pairs were deleted: the rows of those are held, one for each, and those from before are as they were
+pub record Reduces (lists : Lists) (old new : Derived) (before after : Deletions) : Type 0 where
+  pub can : CanReduce lists new after
+  pub goes_on : GoesOn old new
+  pub kept : KeepsLive old new
+  pub few : new.state.next + 20001 * deleted_count before ≤ old.state.next + 20001 * deleted_count after
+  pub stays : (p : ℕ) (id : RowNo) → unit_of before p ≡ Some id → unit_of after p ≡ Some id
+  pub ids : List ℕ
+  pub held : new.held ≡ keeping ids old.held
+  pub count : length ids + deleted_count before ≡ deleted_count after
+  pub each : (n : ℕ) → is_in n ids ≡ true → (p : ℕ) × (unit_of after p ≡ Some (row_no n))
+
+-- where a rule shows the pair, it is deleted
+abbrev pub IsClosedTo : Lists → Deletions → ℕ → Type 0
+IsClosedTo lists deletions p = (rule_a lists (is_deleted deletions) p || rule_b lists (is_deleted deletions) p) ≡ true → is_deleted deletions p ≡ true

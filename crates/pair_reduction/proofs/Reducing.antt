@@ -153,3 +153,34 @@ reduces_more lists a b c x y z g h = record {
 
 pub reduces_as : (lists : Lists) (a b c : Derived) (x y z : Deletions) → c ≡ b → z ≡ y → Reduces lists a b x y → Reduces lists a c x z
 reduces_as lists a b c x y z e f g = subst (λ (d : Derived). Reduces lists a d x z) (sym e) (subst (λ (m : Deletions). Reduces lists a b x m) (sym f) g)
+
+-- ---- one pair is tried
+
+pub left_of : (lists : Lists) (d : Derived) (deletions : Deletions) (p : ℕ) → CanReduce lists d deletions → IsPairNo lists p → is_deleted deletions p ≡ false → deleted_count deletions + 1 ≤ pair_count lists
+left_of lists d deletions p can p_is e =
+    omega (arith, one_left deletions p (row_no 0) p_is.0 (omega (arith, can.pairs, p_is.1)) (absent_from (unit_of deletions p) e), can.pairs)
+
+pub tried_a : (inst lists : Lists) (old new : Derived) (before after : Deletions) (p : ℕ) → CanReduce lists old before → IsPairNo lists p → is_deleted before p ≡ false → inst ≡ lists → rule_a inst (is_deleted before) p ≡ true → Deletes old new before after p →
+    new.state.next ≤ old.state.next + 20001 → Reduces lists old new before after
+tried_a inst lists old new before after p can p_is e same rule d few =
+    reduces_one lists old new before after p can p_is (absent_from (unit_of before p) e)
+    (or_left (rule_a lists (is_deleted before) p) (rule_b lists (is_deleted before) p) (subst (λ (l : Lists). rule_a l (is_deleted before) p ≡ true) same rule)) d few
+
+pub tried_b : (inst lists : Lists) (old new : Derived) (before after : Deletions) (p : ℕ) → CanReduce lists old before → IsPairNo lists p → is_deleted before p ≡ false → inst ≡ lists → rule_b inst (is_deleted before) p ≡ true → Deletes old new before after p →
+    new.state.next ≤ old.state.next + 20001 → Reduces lists old new before after
+tried_b inst lists old new before after p can p_is e same rule d few =
+    reduces_one lists old new before after p can p_is (absent_from (unit_of before p) e)
+    (or_right (rule_a lists (is_deleted before) p) (rule_b lists (is_deleted before) p) (subst (λ (l : Lists). rule_b l (is_deleted before) p ≡ true) same rule)) d few
+
+-- at least one more is deleted
+pub one_more : (old new : Derived) (before after : Deletions) (p : ℕ) → 1 ≤ p → p ≤ length before → is_deleted before p ≡ false → Deletes old new before after p → deleted_count before < deleted_count after
+one_more old new before after p first last e d = omega (arith, ap deleted_count d.marked, marked_count before p (row_no d.id) first last (absent_from (unit_of before p) e))
+
+neither : (a b : Bool) → a ≡ false → b ≡ false → (a || b) ≡ true → ⊥
+neither true b e f h = true≢false e
+neither false true e f h = true≢false f
+neither false false e f h = true≢false (sym h)
+
+pub closed_by_none : (inst other lists : Lists) (deletions : Deletions) (p : ℕ) → inst ≡ lists → other ≡ lists → rule_a inst (is_deleted deletions) p ≡ false → rule_b other (is_deleted deletions) p ≡ false → IsClosedTo lists deletions p
+closed_by_none inst other lists deletions p same again a b h =
+    absurd (neither (rule_a lists (is_deleted deletions) p) (rule_b lists (is_deleted deletions) p) (subst (λ (l : Lists). rule_a l (is_deleted deletions) p ≡ false) same a) (subst (λ (l : Lists). rule_b l (is_deleted deletions) p ≡ false) again b) h)

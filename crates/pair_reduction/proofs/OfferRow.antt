@@ -147,7 +147,7 @@ module _ (lists : Lists) (formed : IsWellFormed lists) (q : ℕ) (q_is : IsPairN
           let other : (p == q) ≡ false = not-true (p == q) two.0 in
           let le : rank_by_resident lists p ≤ rank_by_resident lists q = leb-true (rank_by_resident lists p) (rank_by_resident lists q) two.1 in
           let gone : is_deleted deletions p ≡ true = gone_by (p == q) (is_deleted deletions p) (nat_lt (rank_by_resident lists q) (rank_by_resident lists p))
-              (all_at (λ o. o == q || is_deleted deletions o || nat_lt (rank_by_resident lists q) (rank_by_resident lists o)) (pairs_of_resident lists (pair_at lists q).resident) p only i) other (le-ltb (rank_by_resident lists q) (rank_by_resident lists p) le) in
+          (all_at (λ o. o == q || is_deleted deletions o || nat_lt (rank_by_resident lists q) (rank_by_resident lists o)) (pairs_of_resident lists (pair_at lists q).resident) p only i) other (le-ltb (rank_by_resident lists q) (rank_by_resident lists p) le) in
           let found = some_unit p (unit_of deletions p) refl gone in
           record {
             id = found.0;

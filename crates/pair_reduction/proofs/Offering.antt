@@ -112,9 +112,11 @@ made_row from ids id old new row text made order low number e = record {
       elim (or_cases (is_in n (row_numbers ids)) (is_in n (id.0 ∷ [])) parts) [
         | inl f ↦ ((made.each n f).0, ap (is_numbered n) live ∙ numbered-front n old.state.live (record { number = old.state.next; row = row } ∷ []) (made.each n f).1)
         | inr f ↦
-            let same : n ≡ old.state.next = sym (last_one id.0 n true f) ∙ number in
-            (omega arith, ap (is_numbered n) live ∙ row_numbered n row (old.state.live ++ record { number = old.state.next; row = row } ∷ [])
-                (ap (λ (k : ℕ). row_of k (old.state.live ++ record { number = old.state.next; row = row } ∷ [])) same ∙ row_last old.state.next row old.state.live order))
+            let same : n ≡ old.state.next = sym (last_one id.0 n true f) ∙ number in (
+              omega arith,
+              ap (is_numbered n) live ∙ row_numbered n row (old.state.live ++ record { number = old.state.next; row = row } ∷ [])
+                  (ap (λ (k : ℕ). row_of k (old.state.live ++ record { number = old.state.next; row = row } ∷ [])) same ∙ row_last old.state.next row old.state.live order),
+            )
       ];
 }
 
@@ -150,8 +152,11 @@ have_made lists deletions p q qs count old new text have offering order e = reco
   rows = λ x i o.
       elim (or_cases (is_in x qs) (is_in x (q ∷ [])) (sym (is_in-append x qs (q ∷ [])) ∙ i)) [
         | inl f ↦ let found = have.rows x f o in (found.0, kept_row (offer_row lists q) text old new e found.0 (offer_row lists x) found.1)
-        | inr f ↦ (old.state.next, ap (λ (d : Derived). row_of old.state.next d.state.live) e ∙ row_last old.state.next (offer_row lists q) old.state.live order
-            ∙ ap (λ (z : ℕ). Some (offer_row lists z)) (last_one q x true f))
+        | inr f ↦ (
+          old.state.next,
+          ap (λ (d : Derived). row_of old.state.next d.state.live) e ∙ row_last old.state.next (offer_row lists q) old.state.live order
+              ∙ ap (λ (z : ℕ). Some (offer_row lists z)) (last_one q x true f),
+        )
       ];
 }
 

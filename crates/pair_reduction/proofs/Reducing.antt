@@ -3,6 +3,7 @@ use Rattle.std.proofs.Common.{◌≡◌, ◌≢◌, ℕ, zero, suc, ◌+◌, ◌
 use Rattle.std.specs.Prelude.{Option, Some, None, IfSome, is_some, slice_set, replicate}
 use Rattle.std.proofs.lemmas.Bool.{cases_Bool, cases_eq, eqb-true, or_cases, or_left, or_right, true≢false}
 use Rattle.std.proofs.lemmas.List.{append-nil, length-append}
+use Rattle.std.proofs.lemmas.List.Folds.{sum_by-replicate}
 use Rattle.std.proofs.lemmas.List.Sums.{count_by-le-length, sum_by-set}
 use Rattle.hrt_base.specs.declared.numbered.RowNo.{RowNo}
 use Rattle.pb_rows.specs.Formula.{NumberedRow, row_of}
@@ -184,3 +185,25 @@ neither false false e f h = true≢false (sym h)
 pub closed_by_none : (inst other lists : Lists) (deletions : Deletions) (p : ℕ) → inst ≡ lists → other ≡ lists → rule_a inst (is_deleted deletions) p ≡ false → rule_b other (is_deleted deletions) p ≡ false → IsClosedTo lists deletions p
 closed_by_none inst other lists deletions p same again a b h =
     absurd (neither (rule_a lists (is_deleted deletions) p) (rule_b lists (is_deleted deletions) p) (subst (λ (l : Lists). rule_a l (is_deleted deletions) p ≡ false) same a) (subst (λ (l : Lists). rule_b l (is_deleted deletions) p ≡ false) again b) h)
+
+-- ---- a pass
+
+pub closed_more : (lists : Lists) (old new : Deletions) (done p : ℕ) → ((q : ℕ) → 1 ≤ q → q ≤ done → IsClosedTo lists old q) → new ≡ old → IsClosedTo lists new (done + 1) → 1 ≤ p → p ≤ done + 1 → IsClosedTo lists new p
+closed_more lists old new done p so_far same here first last = elim (cases_eq p (done + 1)) [
+  | inl e ↦ subst (IsClosedTo lists new) (sym e) here
+  | inr other ↦ subst (λ (m : Deletions). IsClosedTo lists m p) (sym same) (so_far p first (omega arith))
+]
+
+-- ---- the end
+
+pub are_gone : (lists at : Lists) (d : Derived) (deletions : Deletions) → lists ≡ at → CanReduce lists d deletions → ((p : ℕ) → IsPairNo lists p → IsClosedTo lists deletions p) → AreGone at (is_deleted deletions)
+are_gone lists at d deletions same can closed = subst (λ (l : Lists). AreGone l (is_deleted deletions)) same (gone_exact lists (is_deleted deletions) can.gone closed)
+
+pub are_in_none : (lists at : Lists) (d : Derived) (deletions : Deletions) → lists ≡ at → CanReduce lists d deletions → AreInNone at deletions
+are_in_none lists at d deletions same can = subst (λ (l : Lists). AreInNone l deletions) same (λ m p s e. gone_in_none lists m p s (can.gone p e))
+
+none_counted : (n : ℕ) → deleted_count (replicate n None) ≡ 0
+none_counted n = let e = sum_by-replicate (λ (o : Option RowNo). if is_some o then 1 else 0) n None in omega (arith, e)
+
+pub holds_units : (lists : Lists) (old new : Derived) (deletions : Deletions) (n : ℕ) → Reduces lists old new (replicate n None) deletions → HoldsUnits old new deletions
+holds_units lists old new deletions n r = record { ids = r.ids; held = r.held; count = omega (arith, r.count, none_counted n); each = r.each }

@@ -55,7 +55,7 @@ unit_short : (p : ℕ) → p ≤ 100000 → length (line_text (Rup (written_of (
 unit_short p h =
     let ws : List (List ℕ) = signed_text (pos 1) ∷ literal_text (record { var = p; neg = true }) ∷ codes ">=" ∷ signed_decimal (pos 1) ∷ codes ";" ∷ [] in
     let short : length (spaced ws) ≤ 21 * 5 = spaced_most ws
-        (and_from (nat_le (length (signed_text (pos 1))) 20) _ one_signed (and_from (nat_le (length (literal_text (record { var = p; neg = true }))) 20) _ (literal_short p h) (and_from true _ refl (and_from (nat_le (length (signed_decimal (pos 1))) 20) _ one_plain refl)))) in
+    (and_from (nat_le (length (signed_text (pos 1))) 20) _ one_signed (and_from (nat_le (length (literal_text (record { var = p; neg = true }))) 20) _ (literal_short p h) (and_from true _ refl (and_from (nat_le (length (signed_decimal (pos 1))) 20) _ one_plain refl)))) in
     omega (arith, short, length-append (codes "rup" ++ spaced ws) (10 ∷ []), length-append (codes "rup") (spaced ws))
 
 pub unit_writable : (row : PlainRow) (p : ℕ) → row ≡ unit_row p → 1 ≤ p → p ≤ 100000 → IsWritable (Rup (written_of row))
@@ -69,7 +69,7 @@ taken_row : (p : ℕ) (old new : Derived) → Takes (Rup (written_of (unit_row p
 taken_row p old new taken =
     let made = made_then (rup_row (pair_count old.lists) (written_of (unit_row p))) (λ row. Ok (with_row old.state row)) new.state taken.step.leads in
     let known = made_if (is_small_row (written_of (unit_row p)))
-        (if_known (pair_count old.lists) (literals_in (unit_row p).terms) (if nat_le (all_sizes (unit_row p).terms (pos 1)) (2 ^ 120) then Ok (in_normal_form (written_of (unit_row p))) else Err TooBig)) TooBig made.0 made.1 in
+    (if_known (pair_count old.lists) (literals_in (unit_row p).terms) (if nat_le (all_sizes (unit_row p).terms (pos 1)) (2 ^ 120) then Ok (in_normal_form (written_of (unit_row p))) else Err TooBig)) TooBig made.0 made.1 in
     let within = made_known (pair_count old.lists) (literals_in (unit_row p).terms) (if nat_le (all_sizes (unit_row p).terms (pos 1)) (2 ^ 120) then Ok (in_normal_form (written_of (unit_row p))) else Err TooBig) made.0 known.1 in
     let fits = made_if (nat_le (all_sizes (unit_row p).terms (pos 1)) (2 ^ 120)) (Ok (in_normal_form (written_of (unit_row p)))) TooBig made.0 within in
     let row : in_normal_form (written_of (unit_row p)) ≡ made.0 = cc (fits.1) in

@@ -41,8 +41,14 @@ pub good_append : (xs ys : List PolStep) (a b : ℕ) → AreGood xs a → AreGoo
 good_append xs ys a b h k = record {
   made = all_append is_made_step xs ys h.made k.made;
   small = all_append is_small_step xs ys h.small k.small;
-  short = omega (arith, h.short, k.short, ap (λ (ws : List (List ℕ)). length (spaced ws)) (flat_map-append step_words xs ys), ap length (spaced_append (flat_map step_words xs) (flat_map step_words ys)),
-      length-append (spaced (flat_map step_words xs)) (spaced (flat_map step_words ys)));
+  short = omega (
+    arith,
+    h.short,
+    k.short,
+    ap (λ (ws : List (List ℕ)). length (spaced ws)) (flat_map-append step_words xs ys),
+    ap length (spaced_append (flat_map step_words xs) (flat_map step_words ys)),
+    length-append (spaced (flat_map step_words xs)) (spaced (flat_map step_words ys)),
+  );
 }
 
 pub good_less : (steps : List PolStep) (a b : ℕ) → a ≤ b → AreGood steps a → AreGood steps b

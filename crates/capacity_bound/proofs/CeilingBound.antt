@@ -51,10 +51,12 @@ module _ (lists : Lists) (gone : Pairs) (m : List ℕ) (matches : is_matching li
       omega arith))
 
 pub ceiling_bounds : (lists : Lists) (gone : Pairs) (n : ℕ) → n ≡ ceiling lists gone → BoundsMatchings lists gone n
-ceiling_bounds lists gone n e m matches left =
-    let a : length m ≤ residents_left lists gone = within_residents lists gone m matches left in
-    let b : length m ≤ posts_left lists gone = within_posts lists gone m matches left in
-    omega arith
+ceiling_bounds lists gone n e = record {
+  each = λ m matches left.
+      let a : length m ≤ residents_left lists gone = within_residents lists gone m matches left in
+      let b : length m ≤ posts_left lists gone = within_posts lists gone m matches left in
+      omega arith;
+}
 
 -- ---- one ceiling
 
@@ -75,4 +77,4 @@ module _ (lists : Lists) (a b : Pairs) (exact_a : AreGone lists a) (exact_b : Ar
       (sum_by_same _ _ (below (length lists.hospitals)) (λ k. ap (min (capacity_of lists k)) (left_same (pairs_of_hospital lists k) (λ p i. (pair_of_hospital lists k p i).0))))
 
 pub ceiling_exact : (lists : Lists) (gone : Pairs) (n : ℕ) → n ≡ ceiling lists gone → AreGone lists gone → IsCeiling lists n
-ceiling_exact lists gone n e exact set other = e ∙ ceiling_same lists gone set exact other
+ceiling_exact lists gone n e exact = record { of_each = λ set other. e ∙ ceiling_same lists gone set exact other }

@@ -5,10 +5,10 @@ use Rattle.rank_tables.specs.Instance.{Lists}
 use Rattle.rank_tables.specs.Stability.{is_matching}
 use Rattle.stability_model.specs.Gone.{AreGone, Pairs, ceiling}
 
--- no matching has more pairs, if none of them is in the set
-abbrev pub BoundsMatchings : Lists → Pairs → ℕ → Type 0
-BoundsMatchings lists gone n = (m : List ℕ) → IsTrue (is_matching lists m) → ((p : ℕ) → IsTrue (is_in p m) → IsFalse (gone p)) → length m ≤ n
+-- no matching has more than n pairs, if none of them is in the set
+pub record BoundsMatchings (lists : Lists) (gone : Pairs) (n : ℕ) : Type 0 where
+  pub each : (m : List ℕ) → IsTrue (is_matching lists m) → ((p : ℕ) → IsTrue (is_in p m) → IsFalse (gone p)) → length m ≤ n
 
--- the ceiling of the instance: that of whichever set holds exactly the pairs that are gone
-abbrev pub IsCeiling : Lists → ℕ → Type 0
-IsCeiling lists n = (gone : Pairs) → AreGone lists gone → n ≡ ceiling lists gone
+-- n is the ceiling of the instance: that of whichever set holds exactly the pairs that are gone
+pub record IsCeiling (lists : Lists) (n : ℕ) : Type 0 where
+  pub of_each : (gone : Pairs) → AreGone lists gone → n ≡ ceiling lists gone

@@ -54,6 +54,7 @@ pub(crate) fn posts_left(inst: &Instance, gone: &Deleted) -> usize
 /// The smaller of the number of residents that have a pair that isn't deleted, and the number of posts that such pairs can
 /// fill. No matching without deleted pairs is longer (`bounds`). Where the deleted pairs are those that are gone, it is the
 /// ceiling of the instance (`exact`).
+#[tactic(auto, using(crate::proofs::CeilingBound::ceiling_bounds, crate::proofs::CeilingBound::ceiling_exact))]
 pub fn ceiling(inst: &Instance, gone: &Deleted) -> u32
     ensures value { result ≡ ceiling inst.now (is_deleted gone.now) }
     ensures bounds { BoundsMatchings inst.now (is_deleted gone.now) result }

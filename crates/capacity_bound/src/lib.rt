@@ -6,6 +6,8 @@ mod adding;
 mod counts;
 mod derive;
 mod operands;
+#[cfg(test)]
+mod tests;
 
 pub use counts::ceiling;
 pub use derive::derive_bound;

@@ -23,7 +23,8 @@ use Rattle.hrt_reader.specs.PairsText.{pair, pair_named, pairs_of_rows, pairs_re
 use Rattle.hrt_reader.proofs.Numbers.{number_name, name_among}
 use Rattle.hrt_reader.proofs.PairKinds.{AreFine, kind_pair, pair_in_place, pairs_accepted, both_found, eqb-turned}
 use Rattle.hrt_reader.proofs.SpelledItems.{word_at}
-use Rattle.hrt_reader.proofs.SpelledRows.{IsPlain, plain_append, lines_back, are_words}
+use Rattle.hrt_text.proofs.PlainLines.{IsPlain, lines_back, plain_append}
+use Rattle.hrt_reader.proofs.SpelledRows.{are_words}
 use Rattle.hrt_reader.proofs.WrittenLines.{ended_by_feeds}
 
 -- ---- a pair and its names

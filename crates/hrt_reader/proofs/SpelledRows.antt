@@ -15,39 +15,11 @@ use Rattle.rank_tables.specs.WellFormed.{most_capacity}
 use Rattle.hrt_reader.specs.Spelling.{name_at, group_text, items_text, resident_text, hospital_text, spelled_lines, spelling}
 use Rattle.rank_tables.specs.WellFormed.{names_of_residents, names_of_hospitals, is_group, is_list, IsWellFormed}
 use Rattle.rank_tables.specs.Numbers.{is_distinct}
-use Rattle.hrt_text.proofs.Scan.{is_no_feed, part_ends}
-use Rattle.hrt_text.proofs.Words.{all_weaker, is_plain, IsWord, IsWord-from_name, IsWord-decimal, tokens_word}
+use Rattle.hrt_text.proofs.PlainLines.{IsPlain, ended_line, lines_back, plain_append}
+use Rattle.hrt_text.proofs.Words.{IsWord, IsWord-from_name, IsWord-decimal, tokens_word}
 use Rattle.hrt_reader.proofs.SpelledItems.{below, word_at, items_tokens, tokens_items}
 
 -- ---- lines
-
-abbrev pub IsPlain : List ℕ → Type 0
-IsPlain line = list_all is_plain line ≡ true
-
-no_feed : (b : ℕ) → is_plain b ≡ true → is_no_feed b ≡ true
-no_feed b h = (and_parts (not (eqb b 10)) (not (eqb b 13)) h).0
-
-not_return : (b : ℕ) → is_plain b ≡ true → eqb b 13 ≡ false
-not_return b h = let k : not (eqb b 13) ≡ true = (and_parts (not (eqb b 10)) (not (eqb b 13)) h).1 in grind (arith, nat_tests)
-
-plain_kept : (line : List ℕ) → IsPlain line → without_return line ≡ line
-plain_kept [] h = refl
-plain_kept (b ∷ []) h = let no : eqb b 13 ≡ false = not_return b (and_parts (is_plain b) true h).0 in rw no refl
-plain_kept (b ∷ c ∷ line) h = ap (λ (l : List ℕ). b ∷ l) (plain_kept (c ∷ line) (and_parts (is_plain b) (list_all is_plain (c ∷ line)) h).1)
-
-abbrev pub ended_line : List ℕ → List ℕ
-ended_line line = line ++ 10 ∷ []
-
-pub lines_back : (ls : List (List ℕ)) → AllByRecursion IsPlain ls → lines (flat_map ended_line ls) ≡ ls
-lines_back [] h = refl
-lines_back (l ∷ ls) h =
-    ap lines (append_assoc l (10 ∷ []) (flat_map ended_line ls))
-    ∙ ap (map without_return) (part_ends l (flat_map ended_line ls) (all_weaker is_plain is_no_feed no_feed l h.0))
-    ∙ ap (λ (x : List ℕ). x ∷ lines (flat_map ended_line ls)) (plain_kept l h.0)
-    ∙ ap (λ (x : List (List ℕ)). l ∷ x) (lines_back ls h.1)
-
-pub plain_append : (a b : List ℕ) → IsPlain a → IsPlain b → IsPlain (a ++ b)
-plain_append a b h k = list_all-append is_plain a b ∙ and_from (list_all is_plain a) (list_all is_plain b) h k
 
 plain_joined : (ns : List (List ℕ)) → AllByRecursion IsWord ns → IsPlain (join_with_byte 32 ns)
 plain_joined [] h = refl

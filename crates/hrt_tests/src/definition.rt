@@ -43,7 +43,21 @@ pub fn instance_of(number: u32) -> Small {
 }
 
 impl Small {
-    fn is_acceptable(&self, r: usize, h: usize) -> bool
+    pub fn rank_by_resident(&self, r: usize, h: usize) -> u32
+        requires r { r < 3 }
+        requires h { h < 3 }
+    {
+        self.by_resident[r][h]
+    }
+
+    pub fn rank_by_hospital(&self, r: usize, h: usize) -> u32
+        requires r { r < 3 }
+        requires h { h < 3 }
+    {
+        self.by_hospital[h][r]
+    }
+
+    pub fn is_acceptable(&self, r: usize, h: usize) -> bool
         requires r { r < 3 }
         requires h { h < 3 }
     {
@@ -73,7 +87,7 @@ impl Small {
         Ok(text)
     }
 
-    fn posts_of(&self, h: usize) -> u32
+    pub fn posts_of(&self, h: usize) -> u32
         requires { h < 3 }
     {
         self.posts[h].min(2)

@@ -14,6 +14,8 @@ mod models;
 #[cfg(test)]
 mod points;
 #[cfg(test)]
+mod promotions;
+#[cfg(test)]
 mod runs;
 #[cfg(test)]
 mod solves;

@@ -5,6 +5,10 @@ use crate::runs::{WORKED, host_with, words};
 use hrt_base::{NoMemory, Port};
 use hrt_cli::run;
 use hrt_host::MemoryHost;
+use hrt_reader::{ReadRefusal, read_instance};
+use opb_text::{Formula, OpbRefusal, formula_of, read_opb};
+use rank_tables::Instance;
+use stability_model::Model;
 use std::alloc::Global;
 use std::test::Fail;
 
@@ -117,6 +121,44 @@ fn each_call_fails_in_turn(rt: HostRuntime) -> Result<(), Fail> {
             }
         }
         assert!(rt; statuses[0] > 2 && statuses[1] > 13 && statuses[2] > 0);
+    }
+    Ok(())
+}
+
+fn instance_in(alloc: Global, text: &[u8]) -> Result<Instance, ReadRefusal> {
+    if text.len() > 1000 {
+        return Err(ReadRefusal::NoMemory);
+    }
+    read_instance(alloc, text)
+}
+
+fn formula_in(alloc: Global, text: &[u8]) -> Result<Formula, OpbRefusal> {
+    if text.len() > 1000 {
+        return Err(OpbRefusal::NoMemory);
+    }
+    read_opb(alloc, text)
+}
+
+#[test]
+fn a_written_model_is_read_back(rt: HostRuntime) -> Result<(), Fail> {
+    let alloc = rt.alloc();
+    let instances: [&[u8]; 3] = [
+        WORKED,
+        b"hrt 1\nend\n",
+        b"hrt 1\nresident b:\nresident a: x y\nhospital y 20: a\nhospital x 0: a\nend\n",
+    ];
+    for text in instances.iter() {
+        let ended = model(alloc, text, 7, 1_000)?;
+        let read = formula_in(alloc, ended.1.file("m").unwrap_or(b""))?;
+        let instance = instance_in(alloc, text)?;
+        let made = formula_of(alloc, &Model::of(alloc, &instance)?)?;
+        assert_eq!(rt; read.vars, made.vars);
+        assert_eq!(rt; read.objective.as_slice(), made.objective.as_slice());
+        assert_eq!(rt; read.rows.len(), made.rows.len());
+        for (row, wanted) in read.rows.iter().zip(made.rows.iter()) {
+            assert_eq!(rt; row.terms(), wanted.terms());
+            assert_eq!(rt; row.degree(), wanted.degree());
+        }
     }
     Ok(())
 }

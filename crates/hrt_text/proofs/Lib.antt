@@ -4,3 +4,4 @@ pub mod Values
 pub mod Among
 pub mod OpenGroup
 pub mod Feeds
+pub mod PlainLines

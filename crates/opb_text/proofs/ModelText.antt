@@ -15,7 +15,7 @@ use Rattle.opb_text.specs.Spelling.{canonical, header_line, model_text, objectiv
 use Rattle.opb_text.specs.Sending.{hospital_line, hospital_lines, lines_to, pair_line, pair_lines, resident_line, resident_lines}
 
 -- rows over pairs have no opposites
-no_opposites : (f : ℕ → ℤ) (ps : List ℕ) → on_opposites (map (λ p. term (f p) p) ps) ≡ pos 0
+pub no_opposites : (f : ℕ → ℤ) (ps : List ℕ) → on_opposites (map (λ p. term (f p) p) ps) ≡ pos 0
 no_opposites f [] = refl
 no_opposites f (p ∷ ps) = ap (λ z. pos 0 +ℤ z) (no_opposites f ps)
 

@@ -20,17 +20,17 @@ use Rattle.opb_text.specs.Limits.{IsWithinLimits}
 
 -- ---- variables
 
-abbrev AreOver : ℕ → List Term → Type 0
+abbrev pub AreOver : ℕ → List Term → Type 0
 AreOver n terms = All (λ (t : Term). IsCovered n t.lit.var) terms
 
-numbers_covered : (n m : ℕ) → n ≤ m → All (IsCovered m) (numbers_to n)
+pub numbers_covered : (n m : ℕ) → n ≤ m → All (IsCovered m) (numbers_to n)
 numbers_covered zero m h = All-nil (IsCovered m)
 numbers_covered (suc n) m h = All-push (IsCovered m) (numbers_to n) (suc n) (numbers_covered n m (omega arith)) (record { first = omega arith; last = h })
 
-terms_over : (n : ℕ) (f : ℕ → ℤ) (ps : List ℕ) → All (IsCovered n) ps → AreOver n (map (λ p. term (f p) p) ps)
+pub terms_over : (n : ℕ) (f : ℕ → ℤ) (ps : List ℕ) → All (IsCovered n) ps → AreOver n (map (λ p. term (f p) p) ps)
 terms_over n f ps h = All-map (λ (t : Term). IsCovered n t.lit.var) (λ p. term (f p) p) ps h
 
-some_covered : (n : ℕ) (test : ℕ → Bool) → All (IsCovered n) (filter test (numbers_to n))
+pub some_covered : (n : ℕ) (test : ℕ → Bool) → All (IsCovered n) (filter test (numbers_to n))
 some_covered n test = All-filter test (IsCovered n) (numbers_to n) (numbers_covered n n (omega arith))
 
 abbrev IsOver : ℕ → Written → Type 0
@@ -87,7 +87,7 @@ some_few row f ps n =
     let test : ℕ → Bool = λ p. nat_lt (f p) n in
     omega (arith, length-map (filter (λ k. has_any (filter (λ p. f p == k) ps)) (below n)) row, numbers_with f ps n, length-filter test ps, count_by-le-length test ps)
 
-rows_few : (lists : Lists) → length (rows lists) ≤ 3 * pair_count lists
+pub rows_few : (lists : Lists) → length (rows lists) ≤ 3 * pair_count lists
 rows_few lists =
     let ns : List ℕ = numbers_to (pair_count lists) in
     omega (
@@ -101,7 +101,7 @@ rows_few lists =
       some_few (hospital_row lists) (λ p. (pair_at lists p).hospital) ns (length lists.hospitals),
     )
 
-minus_sizes : (ps : List ℕ) → sizes (map (λ p. term (neg_ℤ (pos 1)) p) ps) ≡ length ps
+pub minus_sizes : (ps : List ℕ) → sizes (map (λ p. term (neg_ℤ (pos 1)) p) ps) ≡ length ps
 minus_sizes [] = refl
 minus_sizes (p ∷ ps) = ap (λ n. 1 + n) (minus_sizes ps) ∙ omega arith
 

@@ -1,9 +1,11 @@
 // Writing a model in its canonical spelling.
-ghost use Rattle.std.specs.Prelude.{◌≡◌, ◌<◌, length, OnOk, OnErr, IsErrOf};
+ghost use Rattle.std.specs.Prelude.{◌≡◌, ◌<◌, ◌≤◌, length, OnOk, OnErr, IsErrOf};
 ghost use Rattle.hrt_base.specs.Calls.{Rose, Sent};
 ghost use Rattle.rank_tables.specs.Instance.{pair_count};
 ghost use Rattle.rank_tables.specs.Tables.{IsPairNo};
-ghost use Rattle.stability_model.specs.Model.{objective, rows};
+ghost use Rattle.rank_tables.specs.WellFormed.{IsWellFormed, most_pairs};
+ghost use Rattle.stability_model.specs.Model.{formula, objective, rows};
+ghost use Rattle.opb_text.specs.Refusal.{Spells};
 ghost use Rattle.opb_text.specs.Sending.{SentFront, hospital_line, hospital_lines, pair_line, pair_lines, resident_line, resident_lines};
 ghost use Rattle.opb_text.specs.Spelling.{header_line, model_text, objective_line, row_line, written_with};
 
@@ -15,12 +17,13 @@ use stability_model::Model;
 use std::alloc::Global;
 
 /// Writes the model on `Port::Model`, one row at a time. After `Failed` and after `NoMemory` a front of the text was
-/// written.
+/// written. What is written reads as the model's formula (`read_back`).
 pub fn write_model<H: Host>(alloc: Global, model: &Model, host: &mut H) -> Result<(), WriteEnd>
     requires { (H.world host.old).begun Port.Model ≡ Begun.Writing }
     ensures sent { OnOk result (Sent H.told Port.Model (model_text model.now) (H.world host.old) (H.world host.new)) }
     ensures part { OnErr result (SentFront H.told Port.Model (model_text model.now) (H.world host.old) (H.world host.new)) }
     ensures failed { IsErrOf result WriteEnd.Failed → Rose (H.world host.old).write_faults (H.world host.new).write_faults }
+    ensures read_back { OnOk result (Spells (model_text model.now) (formula model.now)) }
 {
     write_header(alloc, model, host)?;
     write_objective(alloc, model, host)?;
@@ -48,6 +51,7 @@ fn write_header<H: Host>(alloc: Global, model: &Model, host: &mut H) -> Result<(
     ensures sent { OnOk result (Sent H.told Port.Model (header_line (pair_count model.now) (length (rows model.now))) (H.world host.old) (H.world host.new)) }
     ensures part { OnErr result (SentFront H.told Port.Model (header_line (pair_count model.now) (length (rows model.now))) (H.world host.old) (H.world host.new)) }
     ensures failed { IsErrOf result WriteEnd.Failed → Rose (H.world host.old).write_faults (H.world host.new).write_faults }
+    ensures few { pair_count model.now ≤ most_pairs }
 {
     let text = header_line(alloc, model.instance().pairs(), model.row_count())?;
     write_text(host, &text)
@@ -106,6 +110,7 @@ fn write_resident_rows<H: Host>(alloc: Global, model: &Model, host: &mut H) -> R
     ensures sent { OnOk result (Sent H.told Port.Model (resident_lines model.now (length model.now.residents)) (H.world host.old) (H.world host.new)) }
     ensures part { OnErr result (SentFront H.told Port.Model (resident_lines model.now (length model.now.residents)) (H.world host.old) (H.world host.new)) }
     ensures failed { IsErrOf result WriteEnd.Failed → Rose (H.world host.old).write_faults (H.world host.new).write_faults }
+    ensures well_formed { IsWellFormed model.now }
 {
     for r in 0..model.instance().residents() {
         write_resident_row(alloc, model, r, host)?;

@@ -10,6 +10,7 @@ use Rattle.hrt_base.specs.declared.literal.Lit.{Lit}
 use Rattle.hrt_base.specs.declared.literal.Term.{Term}
 use Rattle.hrt_base.specs.declared.numbered.RowNo.{RowNo}
 use Rattle.hrt_text.specs.Text.{without_return}
+use Rattle.hrt_text.proofs.PlainLines.{without_return-plain}
 use Rattle.row_text.specs.Numbers.{both, is_small, read_each, read_id, read_literal, read_number}
 use Rattle.row_text.specs.Rows.{literal_text}
 use Rattle.row_text.proofs.NumberWords.{decimal_word, id_read, signed_read, signed_word}
@@ -156,17 +157,10 @@ line_words_are End made small = refl
 line_words_are Comment made small = refl
 line_words_are Blank made small = refl
 
-pub without_return_plain : (text : List ℕ) → list_all is_plain text ≡ true → without_return text ≡ text
-without_return_plain [] h = refl
-without_return_plain (b ∷ []) h =
-    let other : eqb b 13 ≡ false = not-true (eqb b 13) (and_parts (not (eqb b 10)) (not (eqb b 13)) (and_parts (is_plain b) true h).0).1 in
-    rw other refl
-without_return_plain (b ∷ c ∷ text) h = ap (λ (l : List ℕ). b ∷ l) (without_return_plain (c ∷ text) (and_parts (is_plain b) (list_all is_plain (c ∷ text)) h).1)
-
 -- What is written for a line reads as the line.
 pub line_back : (line : Line) → is_made line ≡ true → is_small_line line ≡ true → length (line_text line) ≤ most_bytes → read_line (spelling line) ≡ Some line
 line_back line made small short =
     let words = line_words_are line made small in
     let few : length (spelling line) + 1 ≤ most_bytes = omega (arith, length-append (spelling line) (10 ∷ [])) in
-    let same : without_return (spelling line) ≡ spelling line = without_return_plain (spelling line) (words_text_plain (line_words line) words) in
+    let same : without_return (spelling line) ≡ spelling line = without_return-plain (spelling line) (words_text_plain (line_words line) words) in
     rw (le-leb (length (spelling line) + 1) most_bytes few, same, tokens-words_text (line_words line) words) (words_back line made small)

@@ -17,7 +17,8 @@ use Rattle.proof_lines.specs.declared.line.Line.{Line}
 use Rattle.proof_lines.specs.declared.line.Line.TheVariants.{Header, Count, Pol, Rup, Soli, Del, Output, Conclusion, End, Comment, Blank}
 use Rattle.proof_lines.specs.Spelling.{end_words, factor, header_words, id_or_axiom, most_bytes, one_or_more, output_words, read_claim, read_count, read_del, read_line, read_row_no, read_step, read_steps, read_tokens, read_words, row_no}
 use Rattle.proof_lines.specs.Texts.{is_factor, is_made, is_made_id, is_made_literal, is_made_step, is_made_term, is_some_of}
-use Rattle.proof_lines.proofs.Made.{both_some, count_made, each_made, id_is_made, if_some, literal_is_made, map_some, row_no_made, some_made, variable_is_made}
+use Rattle.row_text.proofs.Ranges.{both_some, if_some, map_some}
+use Rattle.proof_lines.proofs.Made.{count_made, each_made, id_is_made, literal_is_made, row_no_made, some_made, variable_is_made}
 
 -- ---- steps
 

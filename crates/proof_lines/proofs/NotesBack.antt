@@ -6,6 +6,7 @@ use Rattle.std.proofs.lemmas.Bool.{and_from, and_parts, le-leb, not-true}
 use Rattle.std.proofs.lemmas.List.{length-append}
 use Rattle.hrt_base.specs.declared.literal.Lit.{Lit}
 use Rattle.hrt_text.specs.Text.{without_return}
+use Rattle.hrt_text.proofs.PlainLines.{without_return-plain}
 use Rattle.row_text.specs.Numbers.{both, read_literal, read_variable}
 use Rattle.row_text.specs.Rows.{literal_text}
 use Rattle.row_text.specs.Tokens.{tokens}
@@ -15,7 +16,7 @@ use Rattle.proof_lines.specs.declared.note.Note.TheVariants.{Unit as unit_note, 
 use Rattle.proof_lines.specs.Spelling.{most_bytes}
 use Rattle.proof_lines.specs.Notes.{learn_behind, learn_from, load_behind, note_in, note_of, read_front, read_note_tokens, with_item, without_feed}
 use Rattle.proof_lines.specs.Texts.{id_text, is_made_id, is_made_literal, is_made_note, is_made_variable, is_some_of, note_spelling, note_text, note_words, variable_text}
-use Rattle.proof_lines.proofs.LinesBack.{literals_words, row_no_back, some_ids_back, some_ids_words, without_return_plain}
+use Rattle.proof_lines.proofs.LinesBack.{literals_words, row_no_back, some_ids_back, some_ids_words}
 use Rattle.proof_lines.proofs.StepsBack.{made_id_word, made_literal_read, made_literal_word, made_variable_read, made_variable_word}
 
 variables_front : (vs : List ℕ) (rest : List (List ℕ)) → list_all is_made_variable vs ≡ true → read_front read_variable (map variable_text vs ++ codes ":" ∷ rest) ≡ Some (record { items = vs; behind = rest })
@@ -86,7 +87,7 @@ from_text : (note : Note) (text : List ℕ) → is_made_note note ≡ true → l
 from_text note text made short is =
     let words = note_words_are note made in
     let few : length (note_spelling note) + 1 ≤ most_bytes = omega (arith, length-append (note_spelling note) (10 ∷ [])) in
-    let same : without_return (note_spelling note) ≡ note_spelling note = without_return_plain (note_spelling note) (words_text_plain (note_words note) words) in
+    let same : without_return (note_spelling note) ≡ note_spelling note = without_return-plain (note_spelling note) (words_text_plain (note_words note) words) in
     ap note_in is ∙ note_in_by (note_spelling note) (note_words note) few same (tokens-words_text (note_words note) words) ∙ note_words_back note made
 
 -- What is written for a note reads as the note, with its line feed and without.

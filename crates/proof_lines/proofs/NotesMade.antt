@@ -13,7 +13,8 @@ use Rattle.proof_lines.specs.declared.note.Note.TheVariants.{Unit as unit_note, 
 use Rattle.proof_lines.specs.Notes.{Front, learn_behind, learn_from, load_behind, note_of, read_front, read_kind, read_learn, read_load, read_note_tokens, read_one_literal, read_one_row, with_item, without_feed}
 use Rattle.proof_lines.specs.Spelling.{most_bytes, one_or_more, read_row_no}
 use Rattle.proof_lines.specs.Texts.{is_made_id, is_made_literal, is_made_note, is_made_variable, is_some_of}
-use Rattle.proof_lines.proofs.Made.{both_some, each_made, if_some, literal_is_made, map_some, row_no_made, some_made, variable_is_made}
+use Rattle.row_text.proofs.Ranges.{both_some, if_some, map_some}
+use Rattle.proof_lines.proofs.Made.{each_made, literal_is_made, row_no_made, some_made, variable_is_made}
 
 then_some : {A B : Type 0} (f : A → Option B) (o : Option A) (y : B) → option_and_then f o ≡ Some y → (x : A) × (o ≡ Some x) × (f x ≡ Some y)
 then_some f None y e = absurd cc

@@ -27,7 +27,7 @@ no_end : (z : ℤ) → bytes_eq (signed_text z) (codes ">=") ≡ false
 no_end (pos n) = refl
 no_end (negsuc n) = refl
 
-term_back : (t : Term) → is_small_term t ≡ true → IsMadeTerm t → read_term (signed_text t.coef) (literal_text t.lit) ≡ Some t
+pub term_back : (t : Term) → is_small_term t ≡ true → IsMadeTerm t → read_term (signed_text t.coef) (literal_text t.lit) ≡ Some t
 term_back t small made =
     ap₂ (both (λ (c : ℤ) (l : Rattle.hrt_base.specs.declared.literal.Lit.Lit). let u : Term = record { coef = c; lit = l } in u)) (with_sign_read t.coef (small_abs t.coef small)) (literal_read t.lit made.low made.high)
 

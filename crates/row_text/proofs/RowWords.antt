@@ -37,7 +37,7 @@ term_ahead : (t : Term) (l : List ℕ) → 32 ∷ (term_text t ++ l) ≡ 32 ∷ 
 term_ahead t l =
     ap (λ (r : List ℕ). 32 ∷ r) (append_assoc (signed_text t.coef) (32 ∷ (literal_text t.lit ++ 32 ∷ [])) l ∙ ap (λ (r : List ℕ). signed_text t.coef ++ 32 ∷ r) (append_assoc (literal_text t.lit) (32 ∷ []) l))
 
-terms_ahead : (ts : List Term) (ws : List (List ℕ)) (l : List ℕ) → spaced ws ≡ 32 ∷ l → spaced (flat_map term_words ts ++ ws) ≡ 32 ∷ (flat_map term_text ts ++ l)
+pub terms_ahead : (ts : List Term) (ws : List (List ℕ)) (l : List ℕ) → spaced ws ≡ 32 ∷ l → spaced (flat_map term_words ts ++ ws) ≡ 32 ∷ (flat_map term_text ts ++ l)
 terms_ahead [] ws l e = e
 terms_ahead (t ∷ ts) ws l e =
     ap (λ (r : List ℕ). 32 ∷ (signed_text t.coef ++ 32 ∷ (literal_text t.lit ++ r))) (terms_ahead ts ws l e)

@@ -1,0 +1,84 @@
+#!/usr/bin/env bash
+# Makes the first matching of instances of 20,000 residents and up to 100,000 pairs in long ties, and prints the seconds that
+# `promote` takes, the reading of the instance apart, and the peak memory of both together. Each resident has its hospitals in
+# one tie and each hospital its residents in one. With few posts most residents are refused by their whole list twice. It shows
+# that the seconds grow with the pairs. No command does this alone, so a program is built around the library in a copy of the
+# crates that it stands on, which takes a few minutes at first.
+set -eu
+cd "$(dirname "$0")/.."
+work=$(mktemp -d)
+trap 'rm -rf "$work"' EXIT
+mkdir -p "$work/crates/promoting/src"
+cp HANDLES "$work"
+for crate in hrt_base rank_tables hrt_text hrt_reader promotion_heuristic; do
+  grep "^$crate:" crates.txt >> "$work/crates.txt"
+  mkdir "$work/crates/$crate"
+  cp -r "crates/$crate/src" "crates/$crate/specs" "crates/$crate/proofs" "$work/crates/$crate"
+done
+echo 'promoting: rank_tables hrt_reader promotion_heuristic' >> "$work/crates.txt"
+cat > "$work/crates/promoting/src/main.rt" <<'END'
+//! Prints how many pairs the first matching of an instance has, and the milliseconds of reading and of promoting.
+#![tactic(auto)]
+
+use hrt_reader::read_instance;
+use promotion_heuristic::promote;
+use std::io;
+use std::time::Instant;
+use std::{env, fs};
+
+fn main(rt: HostRuntime) -> io::Result<()> {
+    for path in env::args(&rt)?.skip(1) {
+        let bytes = fs::read(&rt, path.as_str())?;
+        if bytes.len() > 67_108_864 {
+            continue;
+        }
+        let begun = Instant::now(&rt)?;
+        let Ok(inst) = read_instance(rt.alloc(), &bytes) else {
+            println!(rt; "not read")?;
+            continue;
+        };
+        let read = begun.elapsed(&rt)?.as_millis();
+        let begun = Instant::now(&rt)?;
+        let Ok(pairs) = promote(rt.alloc(), &inst) else {
+            println!(rt; "no memory")?;
+            continue;
+        };
+        let promoted = begun.elapsed(&rt)?.as_micros();
+        println!(rt; "{} {read} {promoted}", pairs.len())?;
+    }
+    Ok(())
+}
+END
+(cd "$work/crates/promoting" && rt run > "$work/log" 2>&1) || { cat "$work/log"; exit 1; }
+make='
+import sys
+path, residents, hospitals, choices, posts = sys.argv[1], *map(int, sys.argv[2:])
+lists = [[(r * choices + k) % hospitals for k in range(choices)] for r in range(residents)]
+named = [[] for _ in range(hospitals)]
+for r, list in enumerate(lists):
+    for h in list:
+        named[h].append(r)
+with open(path, "w") as file:
+    file.write("hrt 1\n")
+    for r, list in enumerate(lists):
+        file.write(f"resident r{r}: (" + " ".join(f"h{h}" for h in list) + ")\n")
+    for h, list in enumerate(named):
+        file.write(f"hospital h{h} {posts}: (" + " ".join(f"r{r}" for r in list) + ")\n")
+    file.write("end\n")
+'
+# In a process of its own, since what a parent holds counts as the peak of its children.
+measure='
+import os, subprocess, sys
+program, path, residents, hospitals, choices, posts = sys.argv[1:]
+run = subprocess.Popen([program, path], stdout=subprocess.PIPE)
+told = run.stdout.read().split()
+_, status, usage = os.wait4(run.pid, 0)
+pairs = int(residents) * int(choices)
+size, read, promoted = map(int, told)
+print(f"{residents:>9} {hospitals:>9} {pairs:7} {posts:>5} {size:6} {read / 1e3:8.2f} {promoted / 1e6:8.3f} {promoted / pairs:8.3f} {usage.ru_maxrss / 1024:9.1f} {os.waitstatus_to_exitcode(status):7}")
+'
+printf '%9s %9s %7s %5s %6s %8s %8s %8s %9s %7s\n' residents hospitals pairs posts first reading seconds us/pair 'peak MiB' status
+for shape in '5000 400 5 5' '10000 800 5 5' '20000 1600 5 5' '20000 1600 5 1' '20000 1600 5 20' '20000 20000 5 1'; do
+  python3 -c "$make" "$work/i.hrt" $shape
+  python3 -c "$measure" "$work/crates/promoting/out/promoting" "$work/i.hrt" $shape
+done

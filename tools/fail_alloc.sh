@@ -1,5 +1,5 @@
 #!/usr/bin/env bash
-# Refuses each request for memory in turn, for `solve`, `audit` and `model` on the worked instance, until a run makes no more
+# Refuses each request for memory in turn, for each command on the worked instance, until a run makes no more
 # requests, and counts the statuses with which the built program ended. They may be 6, and that of the run without a refusal
 # (0), and no other; and what was reported may be nothing or the whole report. (`rt try --fail-alloc N` does the same for one
 # request before any proof, in some 20 seconds each.) Build first: rt check in crates/hrt. It needs gcc.
@@ -29,8 +29,10 @@ int posix_memalign(void **p, size_t a, size_t n) { NEXT(posix_memalign); return 
 C
 cp crates/hrt/data/a.hrt "$work/i"
 printf 'pair a x\n' > "$work/q"
+printf '%s\n' 'pseudo-Boolean proof version 2.0' 'f 7' 'pol 1 2 +' 'soli ~x1 x2 x3' 'output NONE' \
+  'conclusion BOUNDS -2 -2' 'end pseudo-Boolean proof' > "$work/p"
 bad=0
-for words in "solve $work/i" "audit $work/i $work/q" "model $work/i $work/m"; do
+for words in "solve $work/i" "audit $work/i $work/q" "model $work/i $work/m" "verify $work/i $work/p" "check $work/m $work/p"; do
   # shellcheck disable=SC2086
   "$program" $words > "$work/whole"
   n=0

@@ -1,18 +1,14 @@
 -- What the command that audits pairs comes to.
-use Rattle.std.proofs.Common.{◌≡◌, ◌⊎◌, ◌↔◌, ◌<◌, ◌==◌, ◌||◌, ◌&&◌, ℕ, Bool, true, false, cond, nat_le, List, [], ◌∷◌, length, All, Option, Some, None, Result, option_map, IsTrue, refl, sym, ◌∙◌, ap, subst, arith, inl, inr, eq-eqb}
+use Rattle.std.proofs.Common.{◌≡◌, ◌⊎◌, ◌↔◌, ◌<◌, ◌==◌, ◌||◌, ◌&&◌, ℕ, Bool, true, false, cond, nat_le, List, [], ◌∷◌, length, All, Option, Some, None, Result, option_map, IsTrue, refl, sym, ◌∙◌, ap, subst, inl, inr, eq-eqb}
 use Rattle.std.specs.List.{find}
-use Rattle.std.proofs.lemmas.Bool.{and_from, and_parts, cases_eq, leb-true, le-leb, ltb-true, or_left, or_right}
+use Rattle.std.proofs.lemmas.Bool.{and_from, and_parts, leb-true, le-leb, ltb-true, or_left, or_right}
 use Rattle.std.proofs.lemmas.List.Elements.{All-weaker}
 use Rattle.std.proofs.lemmas.List.Folds.{list_all-map}
 use Rattle.std.proofs.lemmas.List.Sums.{list_all-from_AllPass}
 use Rattle.hrt_base.specs.declared.numbered.PairNo.{PairNo}
-use Rattle.hrt_base.specs.declared.port.Port.{Port}
 use Rattle.hrt_base.specs.declared.port.Port.TheVariants.{Instance, Pairs}
-use Rattle.hrt_base.specs.declared.host.Begun.{Begun}
-use Rattle.hrt_base.specs.declared.host.Begun.TheVariants.{Reading}
 use Rattle.hrt_base.specs.Calls.{AtStart}
-use Rattle.hrt_base.specs.World.{World, Content, put, with_rest, port_no}
-use Rattle.hrt_base.proofs.Pieces.{port_no-injective}
+use Rattle.hrt_base.specs.World.{World, Content}
 use Rattle.rank_tables.specs.Numbers.{below, is_distinct, is_in, numbers_to}
 use Rattle.rank_tables.specs.Instance.{Lists, pair_count}
 use Rattle.rank_tables.specs.Stability.{is_weakly_stable}
@@ -24,18 +20,14 @@ use Rattle.stability_audit.specs.Verdict.{ArePairs, blocking_pair, first_reason,
 use Rattle.hrt_cli.specs.declared.answer.Answer.{Answer}
 use Rattle.hrt_cli.specs.declared.limit.Limit.{Limit}
 use Rattle.hrt_cli.specs.declared.limit.Limit.TheVariants as limit
-use Rattle.hrt_cli.specs.declared.stop.Ended.{Ended}
-use Rattle.hrt_cli.specs.declared.stop.Ended.TheVariants as ended
 use Rattle.hrt_cli.specs.declared.status.Status.{Status}
 use Rattle.hrt_cli.specs.declared.status.Status.TheVariants.{Done, AuditNo}
-use Rattle.hrt_cli.specs.Answers.{GivesUp, IsAnswer, IsAnswered, IsReadOut, PassedAt, is_on_files}
-use Rattle.hrt_cli.specs.Inputs.{OnlyRead, but_for_rest}
+use Rattle.hrt_cli.specs.Answers.{IsAnswer, IsAnswered, is_on_files}
 use Rattle.hrt_cli.specs.Loading.{ArePairsLoaded, ArePairsRejected, IsLoaded, IsRejected}
 use Rattle.hrt_cli.specs.Reports.{NamesDeclared}
 use Rattle.hrt_cli.specs.Requests.{audit}
-use Rattle.hrt_cli.specs.Verdicts.{ComesTo, Rejection, Verdict, audit_status, audit_verdict, audited, exceeded, on_file, on_lists, pairs_refused, refused, rejected, status_of}
-use Rattle.hrt_cli.proofs.Runs.{put_elsewhere}
-use Rattle.hrt_cli.proofs.Solving.{reads_instance}
+use Rattle.hrt_cli.specs.Verdicts.{ComesTo, Rejection, Verdict, audit_status, audit_verdict, audited, exceeded, on_file, on_lists, rejected}
+use Rattle.hrt_cli.proofs.ReadOut.{reads_one, reads_two, rejection_on_files, then_only_read}
 
 -- ---- whom an audit names
 
@@ -80,33 +72,6 @@ are_pairs_of lists pairs all distinct = record {
       (All-weaker (λ (p : PairNo). IsPairNo lists p.0) _ (λ (p : PairNo) h. and_from (nat_le 1 p.0) (nat_le p.0 (pair_count lists)) (le-leb 1 p.0 h.0) (le-leb p.0 (pair_count lists) h.1)) pairs all);
 }
 
--- ---- worlds
-
-then_only_read : (told : Type 0) (w v u : World) → OnlyRead told w v → OnlyRead told v u → OnlyRead told w u
-then_only_read told w v u first second = record {
-  later = omega (arith, first.later, second.later);
-  write_faults = second.write_faults ∙ first.write_faults;
-  writers = λ p. (λ x. (first.writers p).0 ((second.writers p).0 x), λ x. (second.writers p).1 ((first.writers p).1 x));
-  content = λ t. second.content t ∙ ap (λ (c : Content). but_for_rest c u.content) (first.content t);
-}
-
--- the instance was read to its end, and then the pairs, or further than their limit
-reads_both : (told : Type 0) (old mid new : World) (left : List ℕ) (verdict : Verdict) → AtStart told old → mid.begun ≡ put Instance Reading old.begun
-    → mid.content ≡ with_rest Instance [] old.content → new.begun ≡ put Pairs Reading mid.begun → new.content ≡ with_rest Pairs left mid.content
-    → (left ≡ []) ⊎ (verdict ≡ rejected (exceeded limit.PairsBytes)) → IsReadOut verdict new
-reads_both told old mid new left verdict start begun content begun_pairs content_pairs out p reading = elim (cases_eq (port_no p) (port_no Pairs)) [
-  | inl same ↦
-      let e : p ≡ Pairs = port_no-injective p Pairs same in
-      let rest : new.content.rest Pairs ≡ left = ap (λ (c : Content). c.rest Pairs) content_pairs in
-      subst (λ (q : Port). (new.content.rest q ≡ []) ⊎ PassedAt verdict q) (sym e)
-      (subst (λ (l : List ℕ). (l ≡ []) ⊎ (verdict ≡ rejected (exceeded limit.PairsBytes))) (sym rest) out)
-  | inr other ↦
-      let here : mid.begun p ≡ Reading = sym (ap (λ (f : Port → Begun). f p) begun_pairs ∙ put_elsewhere Pairs Reading mid.begun p other) ∙ reading in
-      let rest : new.content.rest p ≡ mid.content.rest p = ap (λ (c : Content). c.rest p) content_pairs ∙ put_elsewhere Pairs left mid.content.rest p other in
-      subst (λ (l : List ℕ). (l ≡ []) ⊎ PassedAt verdict p) (sym rest)
-      (reads_instance told old mid verdict start begun (inl (ap (λ (c : Content). c.rest Instance) content)) p here)
-]
-
 -- ---- answers
 
 status_on_files : (b : Bool) → IsTrue (is_on_files (cond b Done AuditNo))
@@ -132,14 +97,9 @@ audit_answered told i q lists pairs answer old mid new start loaded read answere
         audited lists pairs,
         audit_due told i q lists listed.0 (audited lists pairs) old mid loaded t listed.1 listed.2,
         answered,
-        reads_both told old mid new [] (audited lists pairs) start loaded.begun (loaded.content t) read.begun (read.content t) (inl refl),
+        reads_two told Instance Pairs old mid new [] (audited lists pairs) start loaded.begun (loaded.content t) read.begun (read.content t) (inl refl),
       );
 }
-
-pub rejection_on_files : (rejection : Rejection) → IsTrue (is_on_files (status_of (rejected rejection)))
-rejection_on_files (refused r) = refl
-rejection_on_files (exceeded what) = refl
-rejection_on_files (pairs_refused r) = refl
 
 pub passed_as : (rejection : Rejection) (what : Limit) (l : List ℕ) → (l ≡ []) ⊎ (rejection ≡ exceeded what) → (l ≡ []) ⊎ (rejected rejection ≡ rejected (exceeded what))
 passed_as rejection what l (inl e) = inl e
@@ -155,7 +115,7 @@ pairs_rejected told i q lists rejection answer old mid new start loaded read ans
         rejected rejection,
         audit_due told i q lists listed.0 (rejected rejection) old mid loaded t listed.1 listed.2,
         answered,
-        reads_both told old mid new (new.content.rest Pairs) (rejected rejection) start loaded.begun (loaded.content t) read.begun (read.content t)
+        reads_two told Instance Pairs old mid new (new.content.rest Pairs) (rejected rejection) start loaded.begun (loaded.content t) read.begun (read.content t)
             (passed_as rejection limit.PairsBytes (new.content.rest Pairs) (read.out t)),
       );
 }
@@ -169,14 +129,8 @@ instance_rejected told i q rejection answer old new start read answered = record
       let text = read.due t in
       let is : ComesTo (Some (audit i q)) old.content.file (rejected rejection) =
       ap (λ (f : Option (List ℕ)). on_file f (old.content.file q)) text.1 ∙ ap (λ (r : Result Lists Rejection). on_lists r (old.content.file q)) text.2 in
-      (rejected rejection, is, answered, reads_instance told old new (rejected rejection) start read.begun (passed_as rejection limit.InstanceBytes (new.content.rest Instance) (read.out t)));
+      (rejected rejection, is, answered, reads_one told Instance old new (rejected rejection) start read.begun (passed_as rejection limit.InstanceBytes (new.content.rest Instance) (read.out t)));
 }
-
-pub gives_up_after : (told : Type 0) (ended : Ended) (old mid new : World) → OnlyRead told old mid → GivesUp told ended mid new → GivesUp told ended old new
-gives_up_after told ended.ReadFault old mid new first up =
-    record { only_read = then_only_read told old mid new first up.only_read; rose = omega (arith, first.later, up.rose) }
-gives_up_after told ended.WriteFault old mid new first up = absurd up
-gives_up_after told ended.NoMemory old mid new first up = then_only_read told old mid new first up
 
 -- the status of what an audit says
 pub audit_status_is : (verdict : Audit) (b : Bool) → (verdict ≡ Stable) ↔ IsTrue b → audit_status verdict ≡ cond b Done AuditNo

@@ -7,19 +7,21 @@ use Rattle.hrt_base.specs.Calls.{Rose}
 use Rattle.hrt_base.specs.World.{World, store}
 use Rattle.opb_text.specs.Spelling.{model_text}
 use Rattle.rank_tables.specs.Instance.{Lists, pair_count}
+use Rattle.rank_tables.specs.Terms.{model_terms}
 use Rattle.hrt_text.specs.Text.{rows}
 use Rattle.hrt_reader.specs.Refusal.{Refusal, Spells, refusal, lists_of_rows}
-use Rattle.hrt_cli.specs.declared.limit.Limit.TheVariants.{Residents, Hospitals, TriedPairs, InstanceBytes}
+use Rattle.hrt_cli.specs.declared.limit.Limit.TheVariants.{Residents, Hospitals, Pairs, TriedPairs, Terms, InstanceBytes}
 use Rattle.hrt_cli.specs.declared.status.Status.{Status}
-use Rattle.hrt_cli.specs.declared.status.Status.TheVariants.{Done, Misused, InstanceRefused, ReadFault, WriteFault, NoMemory, LimitExceeded, AuditNo, PairsRefused}
+use Rattle.hrt_cli.specs.declared.status.Status.TheVariants.{Done, Misused, InstanceRefused, ReadFault, WriteFault, NoMemory, LimitExceeded, ProofRefused, AuditNo, PairsRefused}
 use Rattle.hrt_cli.specs.Limits.{most}
 use Rattle.hrt_cli.specs.Answers.{IsCutShort, LeavesFronts, SendsNothing}
 use Rattle.hrt_cli.specs.Outputs.{Output, files_after, is_output_name, model_outputs, outputs_due, outputs_if_any, outputs_of}
 use Rattle.hrt_cli.specs.Reports.{IsReport}
-use Rattle.hrt_cli.specs.Requests.{Request, solve, audit, model}
+use Rattle.hrt_cli.specs.Requests.{Request, solve, audit, model, verify, check}
 use Rattle.hrt_cli.specs.Runs.{EndsAs, IsDecided, IsDue, IsReported, Reported, KeepsFiles, KeepsOthers, PrintsBest, has_report, is_code, keeps_files}
 use Rattle.hrt_cli.specs.Statuses.{code_of}
-use Rattle.hrt_cli.specs.Verdicts.{ComesTo, Files, Rejection, Verdict, misused, refused, exceeded, pairs_refused, rejected, solved, audited, modeled, due as due_for, lists_in, model_verdict, solve_verdict, status_of, unless_refused, within}
+use Rattle.hrt_cli.specs.Verdicts.{ComesTo, Files, Rejection, Verdict, misused, refused, exceeded, pairs_refused, model_refused, proof_refused, truncated, rejected, solved, audited, modeled, verified, checked, due as due_for, formula_in, formula_of_instance, lists_in, model_verdict, of_few_terms, solve_verdict, status_of, unless_refused, within}
+use Rattle.hrt_cli.proofs.OneVerdict.{one_on_files, some_is}
 
 pub read_fault : (told : Type 0) (request : Option Request) (status : Status) (old new : World) → EndsAs told request status old new → code_of status ≡ 4
     → Rose old.read_faults new.read_faults
@@ -30,6 +32,7 @@ read_fault told request Done old new ends e = absurd (cc)
 read_fault told request Misused old new ends e = absurd (cc)
 read_fault told request InstanceRefused old new ends e = absurd (cc)
 read_fault told request LimitExceeded old new ends e = absurd (cc)
+read_fault told request ProofRefused old new ends e = absurd (cc)
 read_fault told request AuditNo old new ends e = absurd (cc)
 read_fault told request PairsRefused old new ends e = absurd (cc)
 
@@ -42,6 +45,7 @@ write_fault told request Done old new ends e = absurd (cc)
 write_fault told request Misused old new ends e = absurd (cc)
 write_fault told request InstanceRefused old new ends e = absurd (cc)
 write_fault told request LimitExceeded old new ends e = absurd (cc)
+write_fault told request ProofRefused old new ends e = absurd (cc)
 write_fault told request AuditNo old new ends e = absurd (cc)
 write_fault told request PairsRefused old new ends e = absurd (cc)
 
@@ -54,6 +58,7 @@ after_read_fault told request Done old new ends t e = absurd (cc)
 after_read_fault told request Misused old new ends t e = absurd (cc)
 after_read_fault told request InstanceRefused old new ends t e = absurd (cc)
 after_read_fault told request LimitExceeded old new ends t e = absurd (cc)
+after_read_fault told request ProofRefused old new ends t e = absurd (cc)
 after_read_fault told request AuditNo old new ends t e = absurd (cc)
 after_read_fault told request PairsRefused old new ends t e = absurd (cc)
 
@@ -66,6 +71,7 @@ after_write_fault told request Done old new ends t e = absurd (cc)
 after_write_fault told request Misused old new ends t e = absurd (cc)
 after_write_fault told request InstanceRefused old new ends t e = absurd (cc)
 after_write_fault told request LimitExceeded old new ends t e = absurd (cc)
+after_write_fault told request ProofRefused old new ends t e = absurd (cc)
 after_write_fault told request AuditNo old new ends t e = absurd (cc)
 after_write_fault told request PairsRefused old new ends t e = absurd (cc)
 
@@ -78,6 +84,7 @@ after_no_memory told request Done old new ends t e = absurd (cc)
 after_no_memory told request Misused old new ends t e = absurd (cc)
 after_no_memory told request InstanceRefused old new ends t e = absurd (cc)
 after_no_memory told request LimitExceeded old new ends t e = absurd (cc)
+after_no_memory told request ProofRefused old new ends t e = absurd (cc)
 after_no_memory told request AuditNo old new ends t e = absurd (cc)
 after_no_memory told request PairsRefused old new ends t e = absurd (cc)
 
@@ -88,6 +95,7 @@ reported told request Done old new ends has = ends
 reported told request Misused old new ends has = ends
 reported told request InstanceRefused old new ends has = ends
 reported told request LimitExceeded old new ends has = ends
+reported told request ProofRefused old new ends has = ends
 reported told request AuditNo old new ends has = ends
 reported told request PairsRefused old new ends has = ends
 reported told request ReadFault old new ends has = absurd (cc)
@@ -99,15 +107,14 @@ pub decided : (told : Type 0) (request : Option Request) (status : Status) (old 
 decided told request status old new ends t has =
     record { status = status; code = refl; reported = (reported told request status old new ends has).reported t }
 
-pub some_is : {A : Type 0} (a b : A) → Some a ≡ Some b → a ≡ b
-some_is a b e = cc
-
 -- the words and the files come to one verdict
 pub one_verdict : (request : Option Request) (files : Files) (a b : Verdict) → ComesTo request files a → ComesTo request files b → a ≡ b
 one_verdict None files a b is is_too = is ∙ sym is_too
 one_verdict (Some (solve instance)) files a b is is_too = some_is a b (sym is ∙ is_too)
 one_verdict (Some (audit instance pairs)) files a b is is_too = some_is a b (sym is ∙ is_too)
 one_verdict (Some (model instance file)) files a b is is_too = some_is a b (sym is ∙ is_too)
+one_verdict (Some (verify instance proof)) files a b is is_too = one_on_files verified formula_of_instance (files instance) (files proof) a b is is_too
+one_verdict (Some (check file proof)) files a b is is_too = one_on_files checked formula_in (files file) (files proof) a b is is_too
 
 pub due : (told : Type 0) (request : Option Request) (status : Status) (old new : World) → EndsAs told request status old new → told → IsDue request (code_of status) old
 due told request status old new ends t verdict is has =
@@ -130,6 +137,7 @@ complete told request Done old new ends t unread unwritten verdict is = inl (due
 complete told request Misused old new ends t unread unwritten verdict is = inl (due told request Misused old new ends t verdict is refl)
 complete told request InstanceRefused old new ends t unread unwritten verdict is = inl (due told request InstanceRefused old new ends t verdict is refl)
 complete told request LimitExceeded old new ends t unread unwritten verdict is = inl (due told request LimitExceeded old new ends t verdict is refl)
+complete told request ProofRefused old new ends t unread unwritten verdict is = inl (due told request ProofRefused old new ends t verdict is refl)
 complete told request AuditNo old new ends t unread unwritten verdict is = inl (due told request AuditNo old new ends t verdict is refl)
 complete told request PairsRefused old new ends t unread unwritten verdict is = inl (due told request PairsRefused old new ends t verdict is refl)
 
@@ -141,6 +149,7 @@ misused_code told request ReadFault old new ends e = absurd (cc)
 misused_code told request WriteFault old new ends e = absurd (cc)
 misused_code told request NoMemory old new ends e = absurd (cc)
 misused_code told request LimitExceeded old new ends e = absurd (cc)
+misused_code told request ProofRefused old new ends e = absurd (cc)
 misused_code told request AuditNo old new ends e = absurd (cc)
 misused_code told request PairsRefused old new ends e = absurd (cc)
 
@@ -151,6 +160,7 @@ understood_code told request WriteFault old new ends e = inr refl
 understood_code told request Done old new ends e = inl (ap code_of (ends.understood.1 e))
 understood_code told request InstanceRefused old new ends e = inl (ap code_of (ends.understood.1 e))
 understood_code told request LimitExceeded old new ends e = inl (ap code_of (ends.understood.1 e))
+understood_code told request ProofRefused old new ends e = inl (ap code_of (ends.understood.1 e))
 understood_code told request AuditNo old new ends e = inl (ap code_of (ends.understood.1 e))
 understood_code told request PairsRefused old new ends e = inl (ap code_of (ends.understood.1 e))
 understood_code told request ReadFault old new ends e = absurd (ends.understood e)
@@ -166,10 +176,14 @@ none_written : (request : Option Request) (verdict : Verdict) → (status_of ver
 none_written None verdict other = refl
 none_written (Some (solve instance)) verdict other = refl
 none_written (Some (audit instance pairs)) verdict other = refl
+none_written (Some (verify instance proof)) verdict other = refl
+none_written (Some (check file proof)) verdict other = refl
 none_written (Some (model instance file)) misused other = refl
 none_written (Some (model instance file)) (rejected rejection) other = refl
 none_written (Some (model instance file)) (solved lists) other = refl
 none_written (Some (model instance file)) (audited lists pairs) other = refl
+none_written (Some (model instance file)) (verified claim) other = refl
+none_written (Some (model instance file)) (checked claim) other = refl
 none_written (Some (model instance file)) (modeled lists) other = absurd (other refl)
 
 kept_unwritten : (request : Option Request) (status : Status) (old new : World) → (status ≡ Done → ⊥) → IsReported request status old new → KeepsFiles old.content new.content
@@ -185,6 +199,7 @@ files_kept told request Done old new ends t e = absurd (cc)
 files_kept told request Misused old new ends t e = kept_unwritten request Misused old new (λ d. absurd (cc)) (ends.reported t)
 files_kept told request InstanceRefused old new ends t e = kept_unwritten request InstanceRefused old new (λ d. absurd (cc)) (ends.reported t)
 files_kept told request LimitExceeded old new ends t e = kept_unwritten request LimitExceeded old new (λ d. absurd (cc)) (ends.reported t)
+files_kept told request ProofRefused old new ends t e = kept_unwritten request ProofRefused old new (λ d. absurd (cc)) (ends.reported t)
 files_kept told request AuditNo old new ends t e = kept_unwritten request AuditNo old new (λ d. absurd (cc)) (ends.reported t)
 files_kept told request PairsRefused old new ends t e = kept_unwritten request PairsRefused old new (λ d. absurd (cc)) (ends.reported t)
 
@@ -200,10 +215,14 @@ kept_else : (request : Option Request) (verdict : Verdict) (files : Files) (name
 kept_else None verdict files name e = refl
 kept_else (Some (solve instance)) verdict files name e = refl
 kept_else (Some (audit instance pairs)) verdict files name e = refl
+kept_else (Some (verify instance proof)) verdict files name e = refl
+kept_else (Some (check file proof)) verdict files name e = refl
 kept_else (Some (model instance file)) misused files name e = refl
 kept_else (Some (model instance file)) (rejected rejection) files name e = refl
 kept_else (Some (model instance file)) (solved lists) files name e = refl
 kept_else (Some (model instance file)) (audited lists pairs) files name e = refl
+kept_else (Some (model instance file)) (verified claim) files name e = refl
+kept_else (Some (model instance file)) (checked claim) files name e = refl
 kept_else (Some (model instance file)) (modeled lists) files name e = not_stored file (model_text lists) files name e
 
 kept_if_any : (file : List ℕ) (verdict : Option Verdict) (files : Files) (name : List ℕ) → bytes_eq name file ≡ false → files_after (outputs_if_any (model_outputs file) verdict) files name ≡ files name
@@ -214,6 +233,8 @@ kept_due : (request : Option Request) (files : Files) (name : List ℕ) → is_o
 kept_due None files name e = refl
 kept_due (Some (solve instance)) files name e = refl
 kept_due (Some (audit instance pairs)) files name e = refl
+kept_due (Some (verify instance proof)) files name e = refl
+kept_due (Some (check file proof)) files name e = refl
 kept_due (Some (model instance file)) files name e = kept_if_any file (option_map model_verdict (files instance)) files name e
 
 either_kept : (a b c : Option (List ℕ)) → (a ≡ b) ⊎ (a ≡ c) → c ≡ b → a ≡ b
@@ -232,6 +253,7 @@ others_kept told request Done old new ends t name e = kept_reported request Done
 others_kept told request Misused old new ends t name e = kept_reported request Misused old new (ends.reported t) name e
 others_kept told request InstanceRefused old new ends t name e = kept_reported request InstanceRefused old new (ends.reported t) name e
 others_kept told request LimitExceeded old new ends t name e = kept_reported request LimitExceeded old new (ends.reported t) name e
+others_kept told request ProofRefused old new ends t name e = kept_reported request ProofRefused old new (ends.reported t) name e
 others_kept told request AuditNo old new ends t name e = kept_reported request AuditNo old new (ends.reported t) name e
 others_kept told request PairsRefused old new ends t name e = kept_reported request PairsRefused old new (ends.reported t) name e
 
@@ -243,6 +265,7 @@ known ReadFault = refl
 known WriteFault = refl
 known NoMemory = refl
 known LimitExceeded = refl
+known ProofRefused = refl
 known AuditNo = refl
 known PairsRefused = refl
 
@@ -276,6 +299,26 @@ spelled bytes found e = by (nat_lt (most InstanceBytes) (length bytes)) e
     by true h = absurd (cc)
     by false h = unrefused h
 
+of_within : (r : Result Lists Rejection) (lists : Lists) → within Pairs r ≡ Ok lists → r ≡ Ok lists
+of_within (Err rejection) lists e = absurd (cc)
+of_within (Ok found) lists e = by (nat_lt (most Pairs) (pair_count found)) e
+  where
+    by : (b : Bool) → cond {A = Result Lists Rejection} b (Err (exceeded Pairs)) (Ok found) ≡ taken_as lists → taken_as found ≡ taken_as lists
+    by true h = absurd (cc)
+    by false h = h
+
+of_terms : (r : Result Lists Rejection) (lists : Lists) → of_few_terms r ≡ Ok lists → r ≡ Ok lists
+of_terms (Err rejection) lists e = absurd (cc)
+of_terms (Ok found) lists e = by (nat_lt (most Terms) (model_terms found)) e
+  where
+    by : (b : Bool) → cond {A = Result Lists Rejection} b (Err (exceeded Terms)) (Ok found) ≡ taken_as lists → taken_as found ≡ taken_as lists
+    by true h = absurd (cc)
+    by false h = h
+
+-- lists of few pairs and few terms, too
+pub taken_spelled : (bytes : List ℕ) (lists : Lists) → of_few_terms (within Pairs (lists_in bytes)) ≡ Ok lists → Spells bytes lists
+taken_spelled bytes lists e = spelled bytes lists (of_within (lists_in bytes) lists (of_terms (within Pairs (lists_in bytes)) lists e))
+
 -- and a verdict of best pairs comes of lists that are taken
 taken : (r : Result Lists Rejection) (found : Lists) → due_for (within TriedPairs r) solved ≡ solved found → r ≡ Ok found
 taken (Err rejection) found e = absurd (cc)
@@ -299,31 +342,41 @@ spelled_in (Some bytes) lists e = record {
   spells = spelled bytes lists (taken (lists_in bytes) lists (some_is (solve_verdict bytes) (solved lists) e));
 }
 
-due_not_audited : (r : Result Lists Rejection) (lists : Lists) (pairs : List ℕ) → due_for r solved ≡ audited lists pairs → ⊥
-due_not_audited (Err rejection) lists pairs e = absurd (cc)
-due_not_audited (Ok found) lists pairs e = absurd (cc)
+-- which verdicts the command can come to
+abbrev IsOnSolve : Verdict → Type 0
+IsOnSolve misused = ⊥
+IsOnSolve (rejected rejection) = Unit {0}
+IsOnSolve (solved lists) = Unit {0}
+IsOnSolve (audited lists pairs) = ⊥
+IsOnSolve (modeled lists) = ⊥
+IsOnSolve (verified claim) = ⊥
+IsOnSolve (checked claim) = ⊥
 
-not_audited : (file : Option (List ℕ)) (lists : Lists) (pairs : List ℕ) → option_map solve_verdict file ≡ Some (audited lists pairs) → ⊥
-not_audited None lists pairs e = absurd (cc)
-not_audited (Some bytes) lists pairs e =
-    due_not_audited (within TriedPairs (lists_in bytes)) lists pairs (some_is (solve_verdict bytes) (audited lists pairs) e)
+due_on_solve : (r : Result Lists Rejection) (verdict : Verdict) → due_for r solved ≡ verdict → IsOnSolve verdict
+due_on_solve (Err rejection) verdict e = subst IsOnSolve e tt
+due_on_solve (Ok lists) verdict e = subst IsOnSolve e tt
 
-due_not_modeled : (r : Result Lists Rejection) (lists : Lists) → due_for r solved ≡ modeled lists → ⊥
-due_not_modeled (Err rejection) lists e = absurd (cc)
-due_not_modeled (Ok found) lists e = absurd (cc)
+on_solve : (file : Option (List ℕ)) (verdict : Verdict) → option_map solve_verdict file ≡ Some verdict → IsOnSolve verdict
+on_solve None verdict e = absurd (cc)
+on_solve (Some bytes) verdict e = due_on_solve (within TriedPairs (lists_in bytes)) verdict (some_is (solve_verdict bytes) verdict e)
 
-not_modeled : (file : Option (List ℕ)) (lists : Lists) → option_map solve_verdict file ≡ Some (modeled lists) → ⊥
-not_modeled None lists e = absurd (cc)
-not_modeled (Some bytes) lists e = due_not_modeled (within TriedPairs (lists_in bytes)) lists (some_is (solve_verdict bytes) (modeled lists) e)
+-- what isn't taken is told by another code
+pub rejected_not_done : (rejection : Rejection) → code_of (status_of (rejected rejection)) ≡ 0 → ⊥
+rejected_not_done (refused r) e = absurd (cc)
+rejected_not_done (exceeded limit) e = absurd (cc)
+rejected_not_done (pairs_refused r) e = absurd (cc)
+rejected_not_done (model_refused kind line) e = absurd (cc)
+rejected_not_done (proof_refused r) e = absurd (cc)
+rejected_not_done truncated e = absurd (cc)
 
 prints_best : (instance : List ℕ) (old new : World) (verdict : Verdict) → ComesTo (Some (solve instance)) old.content.file verdict → code_of (status_of verdict) ≡ 0
     → IsReport verdict (new.content.sent Report) → PrintsBest instance old.content new.content
 prints_best instance old new misused is e report = absurd (cc)
-prints_best instance old new (rejected (refused r)) is e report = absurd (cc)
-prints_best instance old new (rejected (exceeded limit)) is e report = absurd (cc)
-prints_best instance old new (rejected (pairs_refused r)) is e report = absurd (cc)
-prints_best instance old new (audited lists pairs) is e report = absurd (not_audited (old.content.file instance) lists pairs is)
-prints_best instance old new (modeled lists) is e report = absurd (not_modeled (old.content.file instance) lists is)
+prints_best instance old new (rejected rejection) is e report = absurd (rejected_not_done rejection e)
+prints_best instance old new (audited lists pairs) is e report = absurd (on_solve (old.content.file instance) (audited lists pairs) is)
+prints_best instance old new (modeled lists) is e report = absurd (on_solve (old.content.file instance) (modeled lists) is)
+prints_best instance old new (verified claim) is e report = absurd (on_solve (old.content.file instance) (verified claim) is)
+prints_best instance old new (checked claim) is e report = absurd (on_solve (old.content.file instance) (checked claim) is)
 prints_best instance old new (solved lists) is e report =
     let file = spelled_in (old.content.file instance) lists is in
     record { bytes = file.bytes; file = file.is_file; lists = lists; spelled = file.spells; pairs = report.pairs; best = report.best; rising = report.rising; report = report.is_report }

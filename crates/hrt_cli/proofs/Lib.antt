@@ -1,7 +1,13 @@
 mod AuditedPairs
 mod Codes
 mod FewTerms
+mod JudgedProofs
+mod OneVerdict
 mod Ports
+mod PrintedClaims
+mod ProofFiles
+mod ReadModels
+mod ReadOut
 mod Runs
 mod Solving
 mod WrittenModels

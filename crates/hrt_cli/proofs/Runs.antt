@@ -12,7 +12,7 @@ use Rattle.hrt_base.specs.World.{World, Content, port_no, put, store}
 use Rattle.hrt_base.proofs.Pieces.{port_no-injective, put_here}
 use Rattle.hrt_cli.specs.declared.answer.Answer.{Answer}
 use Rattle.hrt_cli.specs.declared.status.Status.{Status}
-use Rattle.hrt_cli.specs.declared.status.Status.TheVariants.{Done, Misused, InstanceRefused, ReadFault, WriteFault, NoMemory, LimitExceeded, AuditNo, PairsRefused}
+use Rattle.hrt_cli.specs.declared.status.Status.TheVariants.{Done, Misused, InstanceRefused, ReadFault, WriteFault, NoMemory, LimitExceeded, ProofRefused, AuditNo, PairsRefused}
 use Rattle.hrt_cli.specs.declared.stop.Ended.{Ended}
 use Rattle.hrt_cli.specs.declared.stop.Ended.TheVariants as ended
 use Rattle.hrt_cli.specs.Answers.{CutShort, EndsEarly, GivesUp, IsAnswered, IsReadOut, IsWorked, LeavesFronts, PassedAt, SendsNothing, is_on_files}
@@ -142,6 +142,7 @@ ends_on_files told request ReadFault old new on asked closed reported = absurd (
 ends_on_files told request WriteFault old new on asked closed reported = absurd (cc)
 ends_on_files told request NoMemory old new on asked closed reported = absurd (cc)
 ends_on_files told request LimitExceeded old new on asked closed reported = reported_of told request LimitExceeded old new (λ e. absurd (cc)) asked closed reported
+ends_on_files told request ProofRefused old new on asked closed reported = reported_of told request ProofRefused old new (λ e. absurd (cc)) asked closed reported
 ends_on_files told request AuditNo old new on asked closed reported = reported_of told request AuditNo old new (λ e. absurd (cc)) asked closed reported
 ends_on_files told request PairsRefused old new on asked closed reported = reported_of told request PairsRefused old new (λ e. absurd (cc)) asked closed reported
 

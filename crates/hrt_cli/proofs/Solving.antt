@@ -1,13 +1,8 @@
 -- What the command that finds a largest weakly stable matching comes to.
-use Rattle.std.proofs.Common.{◌≡◌, ℕ, List, [], Some, Result, Ok, Err, IfOk, refl, IsTrue, ap, ◌∙◌, sym, subst, ◌⊎◌, inl, inr, option_map}
-use Rattle.std.proofs.lemmas.Bool.{cases_eq}
-use Rattle.hrt_base.specs.declared.port.Port.{Port}
+use Rattle.std.proofs.Common.{◌≡◌, ℕ, List, [], Some, Result, Ok, Err, IfOk, IsTrue, ap, ◌∙◌, sym, subst, ◌⊎◌, inl, inr, option_map}
 use Rattle.hrt_base.specs.declared.port.Port.TheVariants.{Instance}
-use Rattle.hrt_base.specs.declared.host.Begun.{Begun}
-use Rattle.hrt_base.specs.declared.host.Begun.TheVariants.{Reading}
 use Rattle.hrt_base.specs.Calls.{AtStart}
-use Rattle.hrt_base.specs.World.{World, put, port_no}
-use Rattle.hrt_base.proofs.Pieces.{port_no-injective}
+use Rattle.hrt_base.specs.World.{World}
 use Rattle.rank_tables.specs.Instance.{Lists}
 use Rattle.hrt_reader.specs.Kinds.{number}
 use Rattle.hrt_cli.specs.declared.limit.Limit.TheVariants.{TriedPairs, InstanceBytes}
@@ -15,13 +10,13 @@ use Rattle.hrt_cli.specs.declared.answer.Answer.{Answer}
 use Rattle.hrt_cli.specs.declared.status.Status.{Status}
 use Rattle.hrt_cli.specs.declared.stop.Ended.{Ended}
 use Rattle.hrt_cli.specs.declared.stop.Stop.{Stop}
-use Rattle.hrt_cli.specs.declared.stop.Stop.TheVariants.{Refused, Exceeded, PairsRefused, ReadFault, NoMemory}
-use Rattle.hrt_cli.specs.Answers.{Explains, IsAnswer, IsAnswered, IsReadOut, PassedAt, is_on_files}
+use Rattle.hrt_cli.specs.declared.stop.Stop.TheVariants.{Refused, Exceeded, PairsRefused, ModelRefused, ProofRefused, ReadFault, NoMemory}
+use Rattle.hrt_cli.specs.Answers.{Explains, IsAnswer, IsAnswered, is_on_files}
 use Rattle.hrt_cli.specs.Loading.{IsRejected, StopsLoading}
 use Rattle.hrt_cli.specs.Requests.{solve}
-use Rattle.hrt_cli.specs.Verdicts.{ComesTo, Files, Rejection, Verdict, exceeded, refused, pairs_refused, rejected, solved, due, lists_in, of_few_terms, solve_verdict, status_of, within}
+use Rattle.hrt_cli.specs.Verdicts.{ComesTo, Files, Rejection, exceeded, refused, rejected, solved, due, lists_in, of_few_terms, solve_verdict, within}
 use Rattle.hrt_cli.proofs.FewTerms.{tried_have_few}
-use Rattle.hrt_cli.proofs.Runs.{put_elsewhere, reads_nothing}
+use Rattle.hrt_cli.proofs.ReadOut.{reads_one, rejection_on_files}
 
 -- the verdict on lists, and on a refusal
 pub solved_due : (files : Files) (name bytes : List ℕ) (lists : Lists) → files name ≡ Some bytes → of_few_terms (within TriedPairs (lists_in bytes)) ≡ Ok lists
@@ -31,22 +26,6 @@ solved_due files name bytes lists file spelled = ap (option_map solve_verdict) f
 pub rejected_due : (files : Files) (name bytes : List ℕ) (rejection : Rejection) → files name ≡ Some bytes → of_few_terms (within TriedPairs (lists_in bytes)) ≡ Err rejection
     → ComesTo (Some (solve name)) files (rejected rejection)
 rejected_due files name bytes rejection file is = ap (option_map solve_verdict) file ∙ ap (λ (r : Result Lists Rejection). Some (due r solved)) (sym (tried_have_few (lists_in bytes)) ∙ is)
-
--- only the instance was begun for reading
-pub reads_instance : (told : Type 0) (old mid : World) (verdict : Verdict) → AtStart told old → mid.begun ≡ put Instance Reading old.begun
-    → (mid.content.rest Instance ≡ []) ⊎ (verdict ≡ rejected (exceeded InstanceBytes)) → IsReadOut verdict mid
-reads_instance told old mid verdict start begun out p reading = elim (cases_eq (port_no p) (port_no Instance)) [
-  | inl same ↦ let e : p ≡ Instance = port_no-injective p Instance same in subst (λ (q : Port). (mid.content.rest q ≡ []) ⊎ PassedAt verdict q) (sym e) out
-  | inr other ↦
-      let here : old.begun p ≡ Reading = sym (ap (λ (f : Port → Begun). f p) begun ∙ put_elsewhere Instance Reading old.begun p other) ∙ reading in
-      absurd (reads_nothing told old start p here)
-]
-
--- an instance that isn't taken is told of
-rejection_on_files : (rejection : Rejection) → IsTrue (is_on_files (status_of (rejected rejection)))
-rejection_on_files (refused r) = refl
-rejection_on_files (exceeded what) = refl
-rejection_on_files (pairs_refused r) = refl
 
 passed_as : (rejection : Rejection) (l : List ℕ) → (l ≡ []) ⊎ (rejection ≡ exceeded InstanceBytes) → (l ≡ []) ⊎ (rejected rejection ≡ rejected (exceeded InstanceBytes))
 passed_as rejection l (inl e) = inl e
@@ -62,7 +41,7 @@ solve_rejected told name rejection answer old new start read answered = record {
         rejected rejection,
         rejected_due old.content.file name text.0 rejection text.1 text.2,
         answered,
-        reads_instance told old new (rejected rejection) start read.begun (passed_as rejection (new.content.rest Instance) (read.out t)),
+        reads_one told Instance old new (rejected rejection) start read.begun (passed_as rejection (new.content.rest Instance) (read.out t)),
       );
 }
 
@@ -73,5 +52,7 @@ rejection_explained told name (Refused kind line) (Ok answer) old new start stop
     solve_rejected told name (refused (record { line = line; kind = number kind })) answer old new start stopped explained
 rejection_explained told name (Exceeded what) (Ok answer) old new start stopped explained = solve_rejected told name (exceeded what) answer old new start stopped explained
 rejection_explained told name (PairsRefused kind line) (Ok answer) old new start stopped explained = absurd stopped
+rejection_explained told name (ModelRefused kind line) (Ok answer) old new start stopped explained = absurd stopped
+rejection_explained told name (ProofRefused refusal) (Ok answer) old new start stopped explained = absurd stopped
 rejection_explained told name ReadFault (Ok answer) old new start stopped explained = absurd explained
 rejection_explained told name NoMemory (Ok answer) old new start stopped explained = absurd explained

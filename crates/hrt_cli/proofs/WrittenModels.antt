@@ -1,5 +1,5 @@
 -- What the command that writes the model comes to.
-use Rattle.std.proofs.Common.{◌≡◌, ◌⊎◌, ◌≤◌, ◌==◌, ◌&&◌, ℕ, zero, suc, Bool, true, false, not, cond, if◌then◌else◌, nat_lt, bytes_eq, codes, List, [], ◌∷◌, ◌++◌, length, take, Option, Some, None, Result, Ok, Err, IfErr, IfOk, OnErr, OnOk, option_map, IsTrue, refl, sym, ◌∙◌, ap, subst, arith, inl, inr}
+use Rattle.std.proofs.Common.{◌≡◌, ◌⊎◌, ◌&&◌, ℕ, zero, suc, Bool, true, false, not, cond, bytes_eq, codes, List, [], ◌∷◌, length, take, Option, Some, None, Result, Ok, Err, IfErr, IfOk, OnOk, option_map, IsTrue, refl, sym, ◌∙◌, ap, subst, arith, inl, inr}
 use Rattle.std.proofs.lemmas.Bool.{cases_eq}
 use Rattle.std.proofs.lemmas.Bool.Decides.{nat_tests}
 use Rattle.std.proofs.lemmas.List.{take_all}
@@ -8,36 +8,34 @@ use Rattle.hrt_base.specs.declared.port.Port.TheVariants.{Instance, Pairs, Model
 use Rattle.hrt_base.specs.declared.host.Begun.{Begun}
 use Rattle.hrt_base.specs.declared.host.Begun.TheVariants.{Idle, Reading, Writing}
 use Rattle.hrt_base.specs.Calls.{AtStart, NotWritten, Rose, Sent, Started}
-use Rattle.hrt_base.specs.World.{World, Content, put, port_no, started, appended, sealed, store, with_rest}
+use Rattle.hrt_base.specs.World.{World, Content, put, port_no, started, appended, store}
 use Rattle.hrt_base.proofs.Pieces.{port_no-injective}
-use Rattle.rank_tables.specs.Instance.{Lists, pair_count}
+use Rattle.rank_tables.specs.Instance.{Lists}
 use Rattle.hrt_text.proofs.Among.{bytes_eq-same}
-use Rattle.rank_tables.specs.Terms.{model_terms}
 use Rattle.opb_text.specs.Spelling.{model_text}
-use Rattle.hrt_reader.specs.Refusal.{Spells}
 use Rattle.hrt_cli.specs.declared.answer.Answer.{Answer}
 use Rattle.hrt_cli.specs.declared.limit.Limit.TheVariants as limit
 use Rattle.hrt_cli.specs.declared.status.Status.{Status}
 use Rattle.hrt_cli.specs.declared.status.Status.TheVariants.{Done}
 use Rattle.hrt_cli.specs.declared.stop.Stop.{Stop}
-use Rattle.hrt_cli.specs.declared.stop.Stop.TheVariants.{Refused, Exceeded, PairsRefused, ReadFault, NoMemory}
+use Rattle.hrt_cli.specs.declared.stop.Stop.TheVariants.{Refused, Exceeded, PairsRefused, ModelRefused, ProofRefused, ReadFault, NoMemory}
 use Rattle.hrt_cli.specs.declared.stop.Ended.{Ended}
 use Rattle.hrt_cli.specs.declared.stop.Ended.TheVariants as ended
-use Rattle.hrt_cli.specs.Answers.{CutShort, EndsEarly, EndsFor, Explains, IsAnswer, IsCutShort, IsReadOut, IsWorked, LeavesFronts, PassedAt, is_on_files}
-use Rattle.hrt_cli.specs.Limits.{most}
+use Rattle.hrt_cli.specs.Answers.{CutShort, EndsEarly, EndsFor, Explains, IsAnswer, IsReadOut, IsWorked, LeavesFronts, PassedAt, is_on_files}
 use Rattle.hrt_cli.specs.Inputs.{OnlyRead}
 use Rattle.hrt_cli.specs.Loading.{IsLoaded, IsRejected, StopsLoading}
-use Rattle.hrt_cli.specs.Outputs.{Output, SendsAll, SendsFronts, files_after, model_outputs, outputs_due, outputs_if_any, outputs_of, text_on}
+use Rattle.hrt_cli.specs.Outputs.{Output, SendsAll, SendsFronts, model_outputs, outputs_due, outputs_if_any, outputs_of, text_on}
 use Rattle.hrt_cli.specs.Reports.{IsReport, model_report}
-use Rattle.hrt_cli.specs.Requests.{Request, TwoFiles, audit, is_file_name, model, one_file, request_of, solve, two, two_files}
+use Rattle.hrt_cli.specs.Requests.{Request, TwoFiles, audit, check, is_file_name, model, one_file, request_of, solve, two, two_files, verify}
 use Rattle.hrt_cli.specs.Runs.{EndsAs, WritesModel}
-use Rattle.hrt_cli.specs.Saving.{EndsSaving, FailsSaving, IsBegun, IsLeft, IsSaved, IsSavedInPart}
+use Rattle.hrt_cli.specs.Saving.{EndsSaving, IsBegun, IsLeft, IsSaved, IsSavedInPart}
 use Rattle.hrt_cli.specs.Statuses.{code_of}
-use Rattle.hrt_cli.specs.Verdicts.{ComesTo, Files, Rejection, Verdict, audited, due, exceeded, lists_in, misused, model_verdict, modeled, of_few_terms, pairs_refused, refused, rejected, solved, status_of, within}
-use Rattle.hrt_cli.proofs.AuditedPairs.{passed_as, rejection_on_files}
-use Rattle.hrt_cli.proofs.Codes.{IsSpelledIn, reported, some_is, spelled, zero_has_report}
-use Rattle.hrt_cli.proofs.Runs.{file_before, idle_not_writing, leaves_nothing, name_before, nothing_due, not_reading, put_elsewhere, read_ends, report_open, sent_before, writes_report, writing_not_reading}
-use Rattle.hrt_cli.proofs.Solving.{reads_instance}
+use Rattle.hrt_cli.specs.Verdicts.{ComesTo, Files, Rejection, Verdict, audited, checked, due, exceeded, lists_in, misused, model_verdict, modeled, of_few_terms, rejected, solved, status_of, verified, within}
+use Rattle.hrt_cli.proofs.AuditedPairs.{passed_as}
+use Rattle.hrt_cli.proofs.Codes.{IsSpelledIn, rejected_not_done, reported, taken_spelled, zero_has_report}
+use Rattle.hrt_cli.proofs.OneVerdict.{some_is}
+use Rattle.hrt_cli.proofs.Runs.{file_before, idle_not_writing, leaves_nothing, name_before, nothing_due, put_elsewhere, read_ends, report_open, sent_before, writes_report}
+use Rattle.hrt_cli.proofs.ReadOut.{reads_one, rejection_on_files}
 
 -- ---- the verdict
 
@@ -67,7 +65,7 @@ read_out : (told : Type 0) (i : List ℕ) (lists : Lists) (old mid new : World) 
     → ((p : Port) → new.begun p ≡ Reading → mid.begun p ≡ Reading) → ((p : Port) → new.content.rest p ≡ mid.content.rest p) → IsReadOut (modeled lists) new
 read_out told i lists old mid new start loaded t begun rest p reading =
     subst (λ (l : List ℕ). (l ≡ []) ⊎ PassedAt (modeled lists) p) (sym (rest p))
-    (reads_instance told old mid (modeled lists) start loaded.begun (inl (ap (λ (c : Content). c.rest Instance) (loaded.content t))) p (begun p reading))
+    (reads_one told Instance old mid (modeled lists) start loaded.begun (inl (ap (λ (c : Content). c.rest Instance) (loaded.content t))) p (begun p reading))
 
 abbrev nothing : List ℕ
 nothing = []
@@ -252,7 +250,7 @@ model_rejected told i m rejection answer old new start read answered =
             verdict = rejected rejection;
             due = ap (option_map model_verdict) text.1 ∙ ap (λ (r : Result Lists Rejection). Some (due r modeled)) text.2;
             answered = answered;
-            read_out = reads_instance told old new (rejected rejection) start read.begun (passed_as rejection limit.InstanceBytes (new.content.rest Instance) (read.out t));
+            read_out = reads_one told Instance old new (rejected rejection) start read.begun (passed_as rejection limit.InstanceBytes (new.content.rest Instance) (read.out t));
             sends = nothing_due [] old.content new.content refl (sent_before told old new start only t) (file_before told old new only t);
             silent = sent_before told old new start only t Report;
             unnamed = name_before told old new start only t;
@@ -263,6 +261,8 @@ explained : (told : Type 0) (i m : List ℕ) (stop : Stop) (answer : Answer) (ol
 explained told i m (Refused kind line) answer old new start stops tells = model_rejected told i m _ answer old new start stops tells
 explained told i m (Exceeded what) answer old new start stops tells = model_rejected told i m (exceeded what) answer old new start stops tells
 explained told i m (PairsRefused kind line) answer old new start stops tells = absurd stops
+explained told i m (ModelRefused kind line) answer old new start stops tells = absurd stops
+explained told i m (ProofRefused refusal) answer old new start stops tells = absurd stops
 explained told i m ReadFault answer old new start stops tells = absurd tells
 explained told i m NoMemory answer old new start stops tells = absurd tells
 
@@ -270,6 +270,8 @@ only_read : (told : Type 0) (i : List ℕ) (stop : Stop) (old new : World) → S
 only_read told i (Refused kind line) old new stops = stops.only_read
 only_read told i (Exceeded what) old new stops = stops.only_read
 only_read told i (PairsRefused kind line) old new stops = absurd stops
+only_read told i (ModelRefused kind line) old new stops = absurd stops
+only_read told i (ProofRefused refusal) old new stops = absurd stops
 only_read told i ReadFault old new stops = stops.only_read
 only_read told i NoMemory old new stops = stops
 
@@ -311,25 +313,44 @@ model_named : (files : Option TwoFiles) (i m : List ℕ) → option_map (λ (f :
 model_named None i m e h = absurd (cc)
 model_named (Some f) i m e h = subst (λ (n : List ℕ). is_file_name n ≡ true) (let same : f.second ≡ m = cc in same) (h f refl)
 
-not_audit : (files : Option TwoFiles) (i m : List ℕ) → option_map (λ (f : TwoFiles). audit f.first f.second) files ≡ Some (model i m) → ⊥
-not_audit None i m e = absurd (cc)
-not_audit (Some f) i m e = absurd (cc)
+-- which requests ask for a model
+abbrev IsForModel : Request → Type 0
+IsForModel (solve instance) = ⊥
+IsForModel (audit instance pairs) = ⊥
+IsForModel (model instance file) = Unit {0}
+IsForModel (verify instance proof) = ⊥
+IsForModel (check file proof) = ⊥
+
+for_model : (r : Request) (i m : List ℕ) → r ≡ model i m → IsForModel r
+for_model r i m e = subst IsForModel (sym e) tt
+
+other_two : (ask : TwoFiles → Request) (files : Option TwoFiles) (i m : List ℕ) → ((f : TwoFiles) → IsForModel (ask f) → ⊥) → option_map ask files ≡ Some (model i m) → ⊥
+other_two ask None i m other e = absurd (cc)
+other_two ask (Some f) i m other e = other f (for_model (ask f) i m (some_is (ask f) (model i m) e))
 
 not_solve : (file : Option (List ℕ)) (i m : List ℕ) → option_map solve file ≡ Some (model i m) → ⊥
 not_solve None i m e = absurd (cc)
 not_solve (Some f) i m e = absurd (cc)
 
-named_by : (a b c : Bool) (files : List (List ℕ)) (i m : List ℕ) →
-    cond a (option_map solve (one_file files)) (cond b (option_map (λ (f : TwoFiles). audit f.first f.second) (two_files files)) (cond c (option_map (λ (f : TwoFiles). model f.first f.second) (two_files files)) None)) ≡ Some (model i m)
-    → is_file_name m ≡ true
-named_by true b c files i m e = absurd (not_solve (one_file files) i m e)
-named_by false true c files i m e = absurd (not_audit (two_files files) i m e)
-named_by false false true files i m e = model_named (two_files files) i m e (two_named files)
-named_by false false false files i m e = absurd (cc)
+abbrev asked_of : Bool → Bool → Bool → Bool → Bool → List (List ℕ) → Option Request
+asked_of a b c d e files =
+    cond a (option_map solve (one_file files))
+    (cond b (option_map (λ (f : TwoFiles). audit f.first f.second) (two_files files))
+    (cond c (option_map (λ (f : TwoFiles). model f.first f.second) (two_files files))
+    (cond d (option_map (λ (f : TwoFiles). verify f.first f.second) (two_files files))
+    (cond e (option_map (λ (f : TwoFiles). check f.first f.second) (two_files files)) None))))
+
+named_by : (a b c d e : Bool) (files : List (List ℕ)) (i m : List ℕ) → asked_of a b c d e files ≡ Some (model i m) → is_file_name m ≡ true
+named_by true b c d e files i m is = absurd (not_solve (one_file files) i m is)
+named_by false true c d e files i m is = absurd (other_two (λ (f : TwoFiles). audit f.first f.second) (two_files files) i m (λ f no. no) is)
+named_by false false true d e files i m is = model_named (two_files files) i m is (two_named files)
+named_by false false false true e files i m is = absurd (other_two (λ (f : TwoFiles). verify f.first f.second) (two_files files) i m (λ f no. no) is)
+named_by false false false false true files i m is = absurd (other_two (λ (f : TwoFiles). check f.first f.second) (two_files files) i m (λ f no. no) is)
+named_by false false false false false files i m is = absurd (cc)
 
 output_named : (texts : List (List ℕ)) (i m : List ℕ) → request_of texts ≡ Some (model i m) → is_file_name m ≡ true
 output_named [] i m e = absurd (cc)
-output_named (word ∷ files) i m e = named_by (bytes_eq word (codes "solve")) (bytes_eq word (codes "audit")) (bytes_eq word (codes "model")) files i m e
+output_named (word ∷ files) i m e = named_by (bytes_eq word (codes "solve")) (bytes_eq word (codes "audit")) (bytes_eq word (codes "model")) (bytes_eq word (codes "verify")) (bytes_eq word (codes "check")) files i m e
 
 stored : (m text : List ℕ) (files : Files) → is_file_name m ≡ true → store m text files m ≡ Some text
 stored [] text files e = absurd (cc)
@@ -344,29 +365,13 @@ of_due : (r : Result Lists Rejection) (lists : Lists) → due r modeled ≡ mode
 of_due (Err rejection) lists e = absurd (cc)
 of_due (Ok found) lists e = let same : found ≡ lists = cc in ap taken_as same
 
-of_within : (r : Result Lists Rejection) (lists : Lists) → within limit.Pairs r ≡ Ok lists → r ≡ Ok lists
-of_within (Err rejection) lists e = absurd (cc)
-of_within (Ok found) lists e = by (nat_lt (most limit.Pairs) (pair_count found)) e
-  where
-    by : (b : Bool) → cond {A = Result Lists Rejection} b (Err (exceeded limit.Pairs)) (Ok found) ≡ taken_as lists → taken_as found ≡ taken_as lists
-    by true h = absurd (cc)
-    by false h = h
-
-of_terms : (r : Result Lists Rejection) (lists : Lists) → of_few_terms r ≡ Ok lists → r ≡ Ok lists
-of_terms (Err rejection) lists e = absurd (cc)
-of_terms (Ok found) lists e = by (nat_lt (most limit.Terms) (model_terms found)) e
-  where
-    by : (b : Bool) → cond {A = Result Lists Rejection} b (Err (exceeded limit.Terms)) (Ok found) ≡ taken_as lists → taken_as found ≡ taken_as lists
-    by true h = absurd (cc)
-    by false h = h
-
 -- the verdict on the bytes of a file
 of_model : (file : Option (List ℕ)) (lists : Lists) → option_map model_verdict file ≡ Some (modeled lists) → IsSpelledIn file lists
 of_model None lists e = absurd (cc)
 of_model (Some bytes) lists e = record {
   bytes = bytes;
   is_file = refl;
-  spells = spelled bytes lists (of_within (lists_in bytes) lists (of_terms (within limit.Pairs (lists_in bytes)) lists (of_due (of_few_terms (within limit.Pairs (lists_in bytes))) lists (some_is (model_verdict bytes) (modeled lists) e))));
+  spells = taken_spelled bytes lists (of_due (of_few_terms (within limit.Pairs (lists_in bytes))) lists (some_is (model_verdict bytes) (modeled lists) e));
 }
 
 abbrev IsOnModel : Verdict → Type 0
@@ -375,6 +380,8 @@ IsOnModel (rejected rejection) = Unit {0}
 IsOnModel (solved lists) = ⊥
 IsOnModel (audited lists pairs) = ⊥
 IsOnModel (modeled lists) = Unit {0}
+IsOnModel (verified claim) = ⊥
+IsOnModel (checked claim) = ⊥
 
 due_on_model : (r : Result Lists Rejection) (verdict : Verdict) → due r modeled ≡ verdict → IsOnModel verdict
 due_on_model (Err rejection) verdict e = subst IsOnModel e tt
@@ -387,9 +394,9 @@ on_model (Some bytes) verdict e = due_on_model (of_few_terms (within limit.Pairs
 writes : (i m : List ℕ) (old new : World) (verdict : Verdict) → is_file_name m ≡ true → ComesTo (Some (model i m)) old.content.file verdict → code_of (status_of verdict) ≡ 0
     → IsReport verdict (new.content.sent Report) → SendsAll (outputs_of (Some (model i m)) verdict) old.content new.content → WritesModel i m old.content new.content
 writes i m old new misused named is e report sends = absurd (on_model (old.content.file i) misused is)
-writes i m old new (rejected (refused r)) named is e report sends = absurd (cc)
-writes i m old new (rejected (exceeded what)) named is e report sends = absurd (cc)
-writes i m old new (rejected (pairs_refused r)) named is e report sends = absurd (cc)
+writes i m old new (rejected rejection) named is e report sends = absurd (rejected_not_done rejection e)
+writes i m old new (verified claim) named is e report sends = absurd (on_model (old.content.file i) (verified claim) is)
+writes i m old new (checked claim) named is e report sends = absurd (on_model (old.content.file i) (checked claim) is)
 writes i m old new (solved lists) named is e report sends = absurd (on_model (old.content.file i) (solved lists) is)
 writes i m old new (audited lists pairs) named is e report sends = absurd (on_model (old.content.file i) (audited lists pairs) is)
 writes i m old new (modeled lists) named is e report sends =

@@ -1,5 +1,5 @@
 -- What a run answers for a verdict.
-use Rattle.std.specs.Prelude.{◌≡◌, ◌⊎◌, ◌≤◌, ℕ, Bool, true, false, IsTrue, List, [], take, Option, Some}
+use Rattle.std.specs.Prelude.{◌≡◌, ◌⊎◌, ◌≤◌, ℕ, Bool, true, false, IsTrue, List, [], take, Option, IfSome}
 use Rattle.hrt_base.specs.declared.port.Port.{Port}
 use Rattle.hrt_base.specs.declared.port.Port.TheVariants.{Instance, Pairs, Model, Proof, Report, ModelTwo, ProofTwo}
 use Rattle.hrt_base.specs.declared.host.Begun.TheVariants.{Reading, Writing}
@@ -7,12 +7,15 @@ use Rattle.hrt_base.specs.World.{World, Content, port_no}
 use Rattle.hrt_base.specs.Calls.{Rose}
 use Rattle.hrt_reader.specs.Kinds.{number}
 use Rattle.hrt_reader.specs.PairsAnswer.{pairs_number}
-use Rattle.hrt_cli.specs.declared.limit.Limit.TheVariants.{InstanceBytes, PairsBytes}
+use Rattle.proof_lines.specs.declared.line.Claim.{Claim}
+use Rattle.proof_checker.specs.declared.refusal.ProofRefusal.{ProofRefusal}
+use Rattle.proof_checker.specs.Answers.{refusal_verdict}
+use Rattle.hrt_cli.specs.declared.limit.Limit.TheVariants.{InstanceBytes, PairsBytes, ModelBytes, ProofBytes}
 use Rattle.hrt_cli.specs.declared.answer.Answer.{Answer}
 use Rattle.hrt_cli.specs.declared.status.Status.{Status}
 use Rattle.hrt_cli.specs.declared.status.Status.TheVariants as status
 use Rattle.hrt_cli.specs.declared.stop.Stop.{Stop}
-use Rattle.hrt_cli.specs.declared.stop.Stop.TheVariants.{Refused, Exceeded, PairsRefused, ReadFault, NoMemory}
+use Rattle.hrt_cli.specs.declared.stop.Stop.TheVariants.{Refused, Exceeded, PairsRefused, ModelRefused, ProofRefused, ReadFault, NoMemory}
 use Rattle.hrt_cli.specs.declared.stop.Ended.{Ended}
 use Rattle.hrt_cli.specs.declared.stop.Ended.TheVariants as ended
 use Rattle.hrt_cli.specs.Inputs.{OnlyRead}
@@ -20,7 +23,7 @@ use Rattle.hrt_cli.specs.Loading.{FailedToRead}
 use Rattle.hrt_cli.specs.Outputs.{SendsAll, SendsFronts, outputs_due, outputs_of}
 use Rattle.hrt_cli.specs.Reports.{IsReport}
 use Rattle.hrt_cli.specs.Requests.{Request}
-use Rattle.hrt_cli.specs.Verdicts.{Verdict, rejected, refused, exceeded, pairs_refused, ComesTo, status_of}
+use Rattle.hrt_cli.specs.Verdicts.{Verdict, rejected, refused, exceeded, pairs_refused, model_refused, ComesTo, on_verdict, status_of}
 
 -- a status that tells a verdict on the files
 abbrev pub is_on_files : Status → Bool
@@ -31,6 +34,7 @@ is_on_files status.ReadFault = false
 is_on_files status.WriteFault = false
 is_on_files status.NoMemory = false
 is_on_files status.LimitExceeded = true
+is_on_files status.ProofRefused = true
 is_on_files status.AuditNo = true
 is_on_files status.PairsRefused = true
 
@@ -39,11 +43,17 @@ pub record IsAnswer (verdict : Verdict) (answer : Answer) : Type 0 where
   pub status : answer.status ≡ status_of verdict
   pub report : IsReport verdict answer.report
 
+-- an answer tells the verdict on a proof that isn't valid, whatever a valid one comes to
+abbrev pub TellsRefusal : ProofRefusal → Answer → Type 0
+TellsRefusal refusal answer = (done : Claim → Verdict) → IfSome (refusal_verdict refusal) (λ judged. IsAnswer (on_verdict done judged) answer)
+
 -- an answer tells why there was a stop
 abbrev pub Explains : Stop → Answer → Type 0
 Explains (Refused kind line) answer = IsAnswer (rejected (refused (record { line = line; kind = number kind }))) answer
 Explains (Exceeded limit) answer = IsAnswer (rejected (exceeded limit)) answer
 Explains (PairsRefused kind line) answer = IsAnswer (rejected (pairs_refused (record { line = line; kind = pairs_number kind }))) answer
+Explains (ModelRefused kind line) answer = IsAnswer (rejected (model_refused kind line)) answer
+Explains (ProofRefused refusal) answer = TellsRefusal refusal answer
 Explains ReadFault answer = ⊥
 Explains NoMemory answer = ⊥
 
@@ -57,8 +67,8 @@ EndsFor stop ended.NoMemory = Unit {0}
 abbrev pub PassedAt : Verdict → Port → Type 0
 PassedAt verdict Instance = verdict ≡ rejected (exceeded InstanceBytes)
 PassedAt verdict Pairs = verdict ≡ rejected (exceeded PairsBytes)
-PassedAt verdict Model = ⊥
-PassedAt verdict Proof = ⊥
+PassedAt verdict Model = verdict ≡ rejected (exceeded ModelBytes)
+PassedAt verdict Proof = verdict ≡ rejected (exceeded ProofBytes)
 PassedAt verdict Report = ⊥
 PassedAt verdict ModelTwo = ⊥
 PassedAt verdict ProofTwo = ⊥

@@ -1,8 +1,10 @@
 -- What a run counts, and the most that it takes.
 use Rattle.std.specs.Prelude.{ℕ, List, codes}
 use Rattle.hrt_cli.specs.declared.limit.Limit.{Limit}
-use Rattle.hrt_cli.specs.declared.limit.Limit.TheVariants.{Residents, Hospitals, Pairs, TriedPairs, Terms, InstanceBytes, PairsBytes}
+use Rattle.hrt_cli.specs.declared.limit.Limit.TheVariants.{Residents, Hospitals, Pairs, TriedPairs, Terms, InstanceBytes, PairsBytes, ModelBytes, Variables, Rows, ProofBytes}
 use Rattle.rank_tables.specs.WellFormed.{most_residents, most_hospitals, most_pairs, most_terms}
+use Rattle.opb_text.specs.Limits.{most_rows, most_variables}
+use Rattle.hrt_solve.specs.Judged.{most_proof_bytes}
 
 abbrev pub name_of : Limit → List ℕ
 name_of Residents = codes "residents"
@@ -12,6 +14,10 @@ name_of TriedPairs = codes "pairs"
 name_of Terms = codes "terms"
 name_of InstanceBytes = codes "instance-bytes"
 name_of PairsBytes = codes "pairs-bytes"
+name_of ModelBytes = codes "model-bytes"
+name_of Variables = codes "variables"
+name_of Rows = codes "rows"
+name_of ProofBytes = codes "proof-bytes"
 
 abbrev pub most : Limit → ℕ
 most Residents = most_residents
@@ -21,6 +27,10 @@ most TriedPairs = 12
 most Terms = most_terms
 most InstanceBytes = 67108864
 most PairsBytes = 67108864
+most ModelBytes = 268435456
+most Variables = most_variables
+most Rows = most_rows
+most ProofBytes = most_proof_bytes
 
 -- a limit on the pairs of an instance
 abbrev pub IsOnPairs : Limit → Type 0
@@ -31,3 +41,7 @@ IsOnPairs TriedPairs = Unit {0}
 IsOnPairs Terms = ⊥
 IsOnPairs InstanceBytes = ⊥
 IsOnPairs PairsBytes = ⊥
+IsOnPairs ModelBytes = ⊥
+IsOnPairs Variables = ⊥
+IsOnPairs Rows = ⊥
+IsOnPairs ProofBytes = ⊥

@@ -10,7 +10,7 @@ use Rattle.hrt_reader.specs.PairsAnswer.{pairs_number}
 use Rattle.hrt_cli.specs.declared.limit.Limit.{Limit}
 use Rattle.hrt_cli.specs.declared.limit.Limit.TheVariants.{InstanceBytes, PairsBytes}
 use Rattle.hrt_cli.specs.declared.stop.Stop.{Stop}
-use Rattle.hrt_cli.specs.declared.stop.Stop.TheVariants.{Refused, Exceeded, PairsRefused, ReadFault, NoMemory}
+use Rattle.hrt_cli.specs.declared.stop.Stop.TheVariants.{Refused, Exceeded, PairsRefused, ModelRefused, ProofRefused, ReadFault, NoMemory}
 use Rattle.hrt_cli.specs.Inputs.{OnlyRead}
 use Rattle.hrt_cli.specs.Limits.{most}
 use Rattle.hrt_cli.specs.Verdicts.{Rejection, Verdict, refused, exceeded, pairs_refused, rejected, audited, audit_verdict, lists_in, of_few_terms, within}
@@ -20,6 +20,8 @@ abbrev pub StopsText : Result Lists Rejection → Stop → Type 0
 StopsText lists (Refused kind line) = lists ≡ Err (refused (record { line = line; kind = number kind }))
 StopsText lists (Exceeded limit) = lists ≡ Err (exceeded limit)
 StopsText lists (PairsRefused kind line) = ⊥
+StopsText lists (ModelRefused kind line) = ⊥
+StopsText lists (ProofRefused refusal) = ⊥
 StopsText lists ReadFault = ⊥
 StopsText lists NoMemory = Unit {0}
 
@@ -47,6 +49,8 @@ abbrev pub StopsLoading : (told : Type 0) → List ℕ → Limit → Stop → Wo
 StopsLoading told name limit (Refused kind line) old new = IsRejected told name limit (refused (record { line = line; kind = number kind })) old new
 StopsLoading told name limit (Exceeded what) old new = IsRejected told name limit (exceeded what) old new
 StopsLoading told name limit (PairsRefused kind line) old new = ⊥
+StopsLoading told name limit (ModelRefused kind line) old new = ⊥
+StopsLoading told name limit (ProofRefused refusal) old new = ⊥
 StopsLoading told name limit ReadFault old new = FailedToRead told old new
 StopsLoading told name limit NoMemory old new = OnlyRead told old new
 
@@ -57,6 +61,8 @@ abbrev pub StopsPairsText : Verdict → Stop → Type 0
 StopsPairsText verdict (Refused kind line) = ⊥
 StopsPairsText verdict (Exceeded limit) = ⊥
 StopsPairsText verdict (PairsRefused kind line) = verdict ≡ rejected (pairs_refused (record { line = line; kind = pairs_number kind }))
+StopsPairsText verdict (ModelRefused kind line) = ⊥
+StopsPairsText verdict (ProofRefused refusal) = ⊥
 StopsPairsText verdict ReadFault = ⊥
 StopsPairsText verdict NoMemory = Unit {0}
 
@@ -79,5 +85,7 @@ abbrev pub StopsLoadingPairs : (told : Type 0) → List ℕ → Lists → Stop �
 StopsLoadingPairs told name lists (Refused kind line) old new = ⊥
 StopsLoadingPairs told name lists (Exceeded what) old new = ArePairsRejected told name lists (exceeded what) old new
 StopsLoadingPairs told name lists (PairsRefused kind line) old new = ArePairsRejected told name lists (pairs_refused (record { line = line; kind = pairs_number kind })) old new
+StopsLoadingPairs told name lists (ModelRefused kind line) old new = ⊥
+StopsLoadingPairs told name lists (ProofRefused refusal) old new = ⊥
 StopsLoadingPairs told name lists ReadFault old new = FailedToRead told old new
 StopsLoadingPairs told name lists NoMemory old new = OnlyRead told old new

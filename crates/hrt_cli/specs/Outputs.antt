@@ -1,11 +1,11 @@
 -- What a command writes before its report.
-use Rattle.std.specs.Prelude.{◌≡◌, ◌⊎◌, ℕ, ◌==◌, ◌||◌, Bool, false, if◌then◌else◌, List, [], ◌∷◌, take, Option, Some, None, option_map, bytes_eq}
+use Rattle.std.specs.Prelude.{◌≡◌, ◌⊎◌, ℕ, ◌==◌, Bool, false, if◌then◌else◌, List, [], ◌∷◌, take, Option, Some, None, option_map, bytes_eq}
 use Rattle.hrt_base.specs.declared.port.Port.{Port}
 use Rattle.hrt_base.specs.declared.port.Port.TheVariants.{Model, Report}
 use Rattle.hrt_base.specs.World.{Content, port_no, store}
 use Rattle.opb_text.specs.Spelling.{model_text}
-use Rattle.hrt_cli.specs.Requests.{Request, solve, audit, model}
-use Rattle.hrt_cli.specs.Verdicts.{Files, Verdict, misused, modeled, rejected, solved, audited, model_verdict}
+use Rattle.hrt_cli.specs.Requests.{Request, solve, audit, model, verify, check}
+use Rattle.hrt_cli.specs.Verdicts.{Files, Verdict, misused, modeled, rejected, solved, audited, verified, checked, model_verdict}
 
 -- a text that is written on a port, and becomes the file of this name
 pub record Output : Type 0 where
@@ -21,6 +21,8 @@ model_outputs name misused = []
 model_outputs name (rejected rejection) = []
 model_outputs name (solved lists) = []
 model_outputs name (audited lists pairs) = []
+model_outputs name (verified claim) = []
+model_outputs name (checked claim) = []
 
 -- what is written for a verdict, one output after the other
 abbrev pub outputs_of : Option Request → Verdict → List Output
@@ -28,6 +30,8 @@ outputs_of None verdict = []
 outputs_of (Some (solve instance)) verdict = []
 outputs_of (Some (audit instance pairs)) verdict = []
 outputs_of (Some (model instance name)) verdict = model_outputs name verdict
+outputs_of (Some (verify instance proof)) verdict = []
+outputs_of (Some (check file proof)) verdict = []
 
 -- nothing where a file that is read is absent
 abbrev pub outputs_if_any : (Verdict → List Output) → Option Verdict → List Output
@@ -40,6 +44,8 @@ outputs_due None files = []
 outputs_due (Some (solve instance)) files = []
 outputs_due (Some (audit instance pairs)) files = []
 outputs_due (Some (model instance name)) files = outputs_if_any (model_outputs name) (option_map model_verdict (files instance))
+outputs_due (Some (verify instance proof)) files = []
+outputs_due (Some (check file proof)) files = []
 
 -- the words name this file as one to be written
 abbrev pub is_output_name : Option Request → List ℕ → Bool
@@ -47,6 +53,8 @@ is_output_name None name = false
 is_output_name (Some (solve instance)) name = false
 is_output_name (Some (audit instance pairs)) name = false
 is_output_name (Some (model instance file)) name = bytes_eq name file
+is_output_name (Some (verify instance proof)) name = false
+is_output_name (Some (check file proof)) name = false
 
 -- ---- what is there of it
 

@@ -1,5 +1,6 @@
 -- The texts of reports. Each line ends with a line feed.
-use Rattle.std.specs.Prelude.{◌≡◌, ◌<◌, ℕ, ◌==◌, if◌then◌else◌, List, [], ◌∷◌, ◌++◌, length, flat_map, decimal, codes, slice_get, unwrap_or}
+use Rattle.std.specs.Prelude.{◌≡◌, ◌<◌, ℕ, ◌==◌, if◌then◌else◌, List, [], ◌∷◌, ◌++◌, length, flat_map, decimal, codes, slice_get, unwrap_or, ℤ, neg_ℤ, Option, Some, None, IfSome, option_map}
+use Rattle.std.specs.Fmt.{signed_decimal}
 use Rattle.std.specs.List.Sorted.{IsStrictlyIncreasing}
 use Rattle.rank_tables.specs.Instance.{Lists, pair_count, pair_at, one_sided}
 use Rattle.rank_tables.specs.WellFormed.{names_of_residents, names_of_hospitals}
@@ -9,16 +10,28 @@ use Rattle.stability_audit.specs.declared.verdict.Verdict.{Verdict as Audit}
 use Rattle.stability_audit.specs.declared.verdict.Verdict.TheVariants.{Stable, ResidentTwice, OverCapacity, Blocked}
 use Rattle.stability_audit.specs.Verdict.{verdict_of as audit_of}
 use Rattle.stability_model.specs.Model.{rows}
+use Rattle.proof_lines.specs.declared.line.Claim.{Claim}
+use Rattle.proof_lines.specs.declared.line.Claim.TheVariants.{Bounds, Unsat, Nothing}
+use Rattle.proof_rules.specs.Refusals as why
+use Rattle.proof_rules.specs.Refusals.{Refusal, RefusalAt}
+use Rattle.proof_checker.specs.declared.refusal.ProofRefusal.{ProofRefusal}
+use Rattle.proof_checker.specs.Answers.{refusal_verdict}
 use Rattle.hrt_cli.specs.declared.limit.Limit.{Limit}
+use Rattle.hrt_cli.specs.declared.stop.ModelKind.{ModelKind}
+use Rattle.hrt_cli.specs.declared.stop.ModelKind.TheVariants.{Syntax, TooBig}
 use Rattle.hrt_cli.specs.Limits.{most, name_of}
-use Rattle.hrt_cli.specs.Verdicts.{Verdict, misused, rejected, refused, exceeded, pairs_refused, solved, audited, modeled}
+use Rattle.hrt_cli.specs.Verdicts.{Verdict, misused, rejected, refused, exceeded, pairs_refused, model_refused, proof_refused, truncated, solved, audited, modeled, verified, checked, on_verdict}
 
 abbrev pub line : List ℕ → List ℕ
 line text = text ++ 10 ∷ []
 
+-- a word and what is said of it
+abbrev pub value_line : List ℕ → List ℕ → List ℕ
+value_line word value = word ++ 32 ∷ line value
+
 -- a word and a number
 abbrev pub count_line : List ℕ → ℕ → List ℕ
-count_line word n = word ++ 32 ∷ (decimal n ++ 10 ∷ [])
+count_line word n = value_line word (decimal n)
 
 abbrev pub name_at : List (List ℕ) → ℕ → List ℕ
 name_at names k = unwrap_or (slice_get names k) []
@@ -55,7 +68,7 @@ kind_word n =
 
 -- a number and what is there
 abbrev pub place_line : ℕ → List ℕ → List ℕ
-place_line number what = decimal number ++ 32 ∷ line what
+place_line number what = value_line (decimal number) what
 
 abbrev pub limit_line : Limit → List ℕ
 limit_line limit = codes "limit " ++ count_line (name_of limit) (most limit)
@@ -70,6 +83,59 @@ audit_report lists m (Blocked p) = codes "blocked " ++ names_line lists p.0
 -- the report on a model
 abbrev pub model_report : Lists → List ℕ
 model_report lists = count_line (codes "variables") (pair_count lists) ++ count_line (codes "rows") (length (rows lists))
+
+-- ---- models and proofs
+
+abbrev pub model_kind_word : ModelKind → List ℕ
+model_kind_word Syntax = codes "Syntax"
+model_kind_word TooBig = codes "TooBig"
+
+abbrev pub with_number : List ℕ → ℕ → List ℕ
+with_number kind n = kind ++ 32 ∷ decimal n
+
+-- the kind of a refusal, and the number that it names, if it names one
+abbrev pub proof_kind_text : Refusal → List ℕ
+proof_kind_text why.Syntax = codes "Syntax"
+proof_kind_text why.TooBig = codes "TooBig"
+proof_kind_text (why.BadId id) = with_number (codes "BadId") id
+proof_kind_text (why.BadVariable var) = with_number (codes "BadVariable") var
+proof_kind_text why.StackShape = codes "StackShape"
+proof_kind_text why.NotFull = codes "NotFull"
+proof_kind_text (why.NotASolution row) = with_number (codes "NotASolution") row
+proof_kind_text why.NotImplied = codes "NotImplied"
+proof_kind_text why.BoundNotShown = codes "BoundNotShown"
+proof_kind_text why.WrongCount = codes "WrongCount"
+
+abbrev pub proof_refusal_report : RefusalAt → List ℕ
+proof_refusal_report r = codes "proof refused line " ++ place_line r.line (proof_kind_text r.why)
+
+-- a number, or a word where there is none
+abbrev pub number_or : List ℕ → Option ℤ → List ℕ
+number_or word None = word
+number_or word (Some z) = signed_decimal z
+
+-- the report on a proof that bounds the sizes of weakly stable matchings: the most that there can be, and a size that one has
+abbrev pub sizes_report : Option ℤ → Option ℤ → List ℕ
+sizes_report bound found =
+    line (codes "accepted") ++ value_line (codes "bound") (number_or (codes "none") bound) ++ value_line (codes "found") (number_or (codes "none") found)
+
+-- the objective is minus the number of pairs
+abbrev pub verify_report : Claim → List ℕ
+verify_report (Bounds lower upper) = sizes_report (option_map neg_ℤ lower) (option_map neg_ℤ upper)
+verify_report Unsat = line (codes "accepted") ++ line (codes "unsatisfiable")
+verify_report Nothing = sizes_report None None
+
+-- the report on a proof that bounds the objective: at least the lower number at each point, and at most the upper one at some
+abbrev pub points_report : Option ℤ → Option ℤ → List ℕ
+points_report lower upper =
+    line (codes "accepted") ++ value_line (codes "lower") (number_or (codes "-INF") lower) ++ value_line (codes "upper") (number_or (codes "INF") upper)
+
+abbrev pub check_report : Claim → List ℕ
+check_report (Bounds lower upper) = points_report lower upper
+check_report Unsat = line (codes "accepted") ++ line (codes "unsatisfiable")
+check_report Nothing = line (codes "accepted") ++ line (codes "no conclusion")
+
+-- ---- all of them
 
 -- whom an audit names is declared
 abbrev pub NamesDeclared : Lists → Audit → Type 0
@@ -90,6 +156,15 @@ IsReport misused text = text ≡ line (codes "words not understood")
 IsReport (rejected (refused r)) text = text ≡ codes "instance refused line " ++ place_line r.line (kind_word r.kind)
 IsReport (rejected (exceeded limit)) text = text ≡ limit_line limit
 IsReport (rejected (pairs_refused r)) text = text ≡ codes "pairs refused line " ++ place_line r.line (pairs_kind_word r.kind)
+IsReport (rejected (model_refused kind line)) text = text ≡ codes "model refused line " ++ place_line line (model_kind_word kind)
+IsReport (rejected (proof_refused r)) text = text ≡ proof_refusal_report r
+IsReport (rejected truncated) text = text ≡ line (codes "proof refused Truncated")
 IsReport (solved lists) text = IsSolveReport lists text
 IsReport (audited lists pairs) text = text ≡ audit_report lists pairs (audit_of lists pairs)
 IsReport (modeled lists) text = text ≡ model_report lists
+IsReport (verified claim) text = text ≡ verify_report claim
+IsReport (checked claim) text = text ≡ check_report claim
+
+-- the text is the report on a proof with this refusal, whatever a valid proof comes to
+abbrev pub TellsOfProof : ProofRefusal → List ℕ → Type 0
+TellsOfProof refusal text = (done : Claim → Verdict) → IfSome (refusal_verdict refusal) (λ judged. IsReport (on_verdict done judged) text)

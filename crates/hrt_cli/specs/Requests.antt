@@ -2,13 +2,15 @@
 use Rattle.std.specs.Prelude.{Bool, false, not, ◌&&◌, ◌==◌, ℕ, List, [], ◌∷◌, Option, Some, None, if◌then◌else◌, map, option_map, codes, bytes_eq, String, string_bytes}
 use Rattle.std.specs.Global.{Global}
 use Rattle.hrt_cli.specs.declared.words.Command.{Command}
-use Rattle.hrt_cli.specs.declared.words.Command.TheVariants.{Solve, Audit, Model}
+use Rattle.hrt_cli.specs.declared.words.Command.TheVariants.{Solve, Audit, Model, Verify, Check}
 
 -- a command with the names of its files
 pub data Request : Type 0 where
   solve : List ℕ → Request  -- the instance
   audit : List ℕ → List ℕ → Request  -- the instance and the pairs
   model : List ℕ → List ℕ → Request  -- the instance, and the file of the model
+  verify : List ℕ → List ℕ → Request  -- the instance and the proof
+  check : List ℕ → List ℕ → Request  -- the model and the proof
 
 -- a name of a file isn't empty and doesn't begin with `-`
 abbrev pub is_file_name : List ℕ → Bool
@@ -40,6 +42,8 @@ request_of (word ∷ files) =
     if bytes_eq word (codes "solve") then option_map solve (one_file files)
     else if bytes_eq word (codes "audit") then option_map (λ f. audit f.first f.second) (two_files files)
     else if bytes_eq word (codes "model") then option_map (λ f. model f.first f.second) (two_files files)
+    else if bytes_eq word (codes "verify") then option_map (λ f. verify f.first f.second) (two_files files)
+    else if bytes_eq word (codes "check") then option_map (λ f. check f.first f.second) (two_files files)
     else None
 
 -- the bytes of words
@@ -51,3 +55,5 @@ abbrev pub asked_by : Command → Request
 asked_by (Solve instance) = solve instance.now
 asked_by (Audit instance pairs) = audit instance.now pairs.now
 asked_by (Model instance file) = model instance.now file.now
+asked_by (Verify instance proof) = verify instance.now proof.now
+asked_by (Check file proof) = check file.now proof.now

@@ -1,20 +1,24 @@
 -- How a run ends, and what stands after it.
-use Rattle.std.specs.Prelude.{◌≡◌, ◌⊎◌, ◌≤◌, ◌↔◌, ℕ, ◌==◌, ◌||◌, Bool, true, false, not, List, [], take, Option, Some, None}
+use Rattle.std.specs.Prelude.{◌≡◌, ◌⊎◌, ◌≤◌, ◌↔◌, ℕ, ◌==◌, ◌||◌, Bool, true, false, not, IsTrue, List, length, Option, Some, None, IfSome, ℤ, pos, ◌≤ℤ◌}
 use Rattle.std.specs.List.Sorted.{IsStrictlyIncreasing}
 use Rattle.hrt_base.specs.declared.port.Port.{Port}
 use Rattle.hrt_base.specs.declared.port.Port.TheVariants.{Model, Report}
 use Rattle.hrt_base.specs.declared.host.Begun.TheVariants.{Idle, Writing}
 use Rattle.hrt_base.specs.Calls.{Rose}
-use Rattle.hrt_base.specs.World.{World, Content, port_no, put, appended, sealed}
+use Rattle.hrt_base.specs.World.{World, Content, put, appended, sealed}
 use Rattle.hrt_cli.specs.declared.status.Status.{Status}
-use Rattle.hrt_cli.specs.declared.status.Status.TheVariants.{Done, Misused, InstanceRefused, ReadFault, WriteFault, NoMemory, LimitExceeded, AuditNo, PairsRefused}
+use Rattle.hrt_cli.specs.declared.status.Status.TheVariants.{Done, Misused, InstanceRefused, ReadFault, WriteFault, NoMemory, LimitExceeded, ProofRefused, AuditNo, PairsRefused}
 use Rattle.rank_tables.specs.Instance.{Lists}
-use Rattle.rank_tables.specs.Stability.{Best}
+use Rattle.rank_tables.specs.Stability.{Best, is_weakly_stable}
+use Rattle.pb_rows.specs.Formula.{Formula}
+use Rattle.proof_lines.specs.declared.line.Claim.{Claim}
+use Rattle.proof_rules.specs.Sound.{IsTrueClaim}
 use Rattle.hrt_reader.specs.Refusal.{Spells}
+use Rattle.opb_text.specs.Refusal.{Spells as SpellsFormula}
 use Rattle.opb_text.specs.Spelling.{model_text}
-use Rattle.hrt_cli.specs.Answers.{CutShort, IsCutShort, IsReadOut, LeavesFronts, SendsNothing}
+use Rattle.hrt_cli.specs.Answers.{CutShort, IsReadOut, LeavesFronts, SendsNothing}
 use Rattle.hrt_cli.specs.Outputs.{SendsAll, is_output_name, outputs_of}
-use Rattle.hrt_cli.specs.Reports.{IsReport, model_report, solve_report}
+use Rattle.hrt_cli.specs.Reports.{IsReport, check_report, model_report, sizes_report, solve_report}
 use Rattle.hrt_cli.specs.Requests.{Request}
 use Rattle.hrt_cli.specs.Statuses.{code_of}
 use Rattle.hrt_cli.specs.Verdicts.{Verdict, ComesTo, status_of}
@@ -58,6 +62,7 @@ EndsAs told request Done old new = Reported told request Done old new
 EndsAs told request Misused old new = Reported told request Misused old new
 EndsAs told request InstanceRefused old new = Reported told request InstanceRefused old new
 EndsAs told request LimitExceeded old new = Reported told request LimitExceeded old new
+EndsAs told request ProofRefused old new = Reported told request ProofRefused old new
 EndsAs told request AuditNo old new = Reported told request AuditNo old new
 EndsAs told request PairsRefused old new = Reported told request PairsRefused old new
 
@@ -68,7 +73,7 @@ abbrev pub has_report : ℕ → Bool
 has_report n = not (n == 4 || n == 5 || n == 6)
 
 abbrev pub is_code : ℕ → Bool
-is_code n = n == 0 || n == 2 || n == 3 || n == 4 || n == 5 || n == 6 || n == 7 || n == 9 || n == 12
+is_code n = n == 0 || n == 2 || n == 3 || n == 4 || n == 5 || n == 6 || n == 7 || n == 8 || n == 9 || n == 12
 
 -- the report was sent of what the words and the files come to, and the code is that of this verdict
 pub record IsDecided (request : Option Request) (n : ℕ) (old new : World) : Type 0 where
@@ -107,9 +112,32 @@ pub record WritesModel (instance name : List ℕ) (old new : Content) : Type 0 w
   pub written : new.file name ≡ Some (model_text lists)
   pub report : new.sent Report ≡ model_report lists
 
+-- The report says of the instance that the file spells how many pairs a weakly stable matching has at most, and how many one
+-- of them has at least, or says neither. Both are so, whoever wrote the proof.
+pub record PrintsSizes (instance : List ℕ) (old new : Content) : Type 0 where
+  pub bytes : List ℕ
+  pub file : old.file instance ≡ Some bytes
+  pub lists : Lists
+  pub spelled : Spells bytes lists
+  pub bound : Option ℤ
+  pub found : Option ℤ
+  pub report : new.sent Report ≡ sizes_report bound found
+  pub most : IfSome bound (λ k. (m : List ℕ) → IsTrue (is_weakly_stable lists m) → pos (length m) ≤ℤ k)
+  pub some : IfSome found (λ k. (m : List ℕ) × IsTrue (is_weakly_stable lists m) × (k ≤ℤ pos (length m)))
+
+-- The report says what a proof claims of the points of the formula that the file spells, and it is so, whoever wrote the proof.
+pub record PrintsClaim (model : List ℕ) (old new : Content) : Type 0 where
+  pub bytes : List ℕ
+  pub file : old.file model ≡ Some bytes
+  pub formula : Formula
+  pub spelled : SpellsFormula bytes formula
+  pub claim : Claim
+  pub report : new.sent Report ≡ check_report claim
+  pub is_true : IsTrueClaim formula claim
+
 -- a code after which no file has changed
 abbrev pub keeps_files : ℕ → Bool
-keeps_files n = n == 2 || n == 3 || n == 4 || n == 7 || n == 9 || n == 12
+keeps_files n = n == 2 || n == 3 || n == 4 || n == 7 || n == 8 || n == 9 || n == 12
 
 -- every file is as it was, but for those that the words name as outputs
 abbrev pub KeepsOthers : Option Request → Content → Content → Type 0

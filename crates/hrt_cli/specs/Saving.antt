@@ -5,7 +5,7 @@ use Rattle.hrt_base.specs.declared.host.Begun.TheVariants.{Idle, Writing}
 use Rattle.hrt_cli.specs.declared.stop.Ended.{Ended}
 use Rattle.hrt_cli.specs.declared.stop.Ended.TheVariants.{ReadFault, WriteFault, NoMemory}
 use Rattle.hrt_base.specs.Calls.{Rose}
-use Rattle.hrt_base.specs.World.{World, Content, put, started, appended, sealed}
+use Rattle.hrt_base.specs.World.{World, put, started, appended, sealed}
 
 -- a text was written on a port under a name, and sealed
 pub record IsSaved (told : Type 0) (port : Port) (name text : List ℕ) (old new : World) : Type 0 where

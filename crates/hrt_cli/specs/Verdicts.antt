@@ -1,25 +1,40 @@
 -- What a run comes to, as far as the words and the files decide it.
-use Rattle.std.specs.Prelude.{◌≡◌, ℕ, ◌==◌, nat_lt, if◌then◌else◌, List, length, Option, Some, None, Result, Ok, Err, option_map}
+use Rattle.std.specs.Prelude.{◌≡◌, ◌⊎◌, ◌<◌, ◌≤◌, ℕ, ◌==◌, nat_lt, if◌then◌else◌, List, length, Option, Some, None, Result, Ok, Err, option_map}
 use Rattle.rank_tables.specs.Instance.{Lists, pair_count}
 use Rattle.rank_tables.specs.Stability.{is_weakly_stable}
 use Rattle.rank_tables.specs.Terms.{model_terms}
 use Rattle.hrt_text.specs.Text.{rows}
 use Rattle.hrt_reader.specs.PairsText.{pairs_of_rows, pairs_refusal}
 use Rattle.hrt_reader.specs.Refusal.{Refusal, refusal, lists_of_rows}
+use Rattle.pb_rows.specs.Formula.{Formula}
+use Rattle.stability_model.specs.Model.{formula}
+use Rattle.opb_text.specs.declared.refusal.OpbRefusal.{OpbRefusal}
+use Rattle.opb_text.specs.declared.refusal.OpbRefusal.TheVariants as opb
+use Rattle.opb_text.specs.Refusal.{lines_of, refusal as opb_refusal}
+use Rattle.opb_text.specs.Statements.{formula_said, statements}
+use Rattle.proof_lines.specs.declared.line.Claim.{Claim}
+use Rattle.proof_rules.specs.Refusals.{RefusalAt}
+use Rattle.proof_rules.specs.Texts as text
+use Rattle.proof_rules.specs.Texts.{HasVerdict}
 use Rattle.stability_audit.specs.declared.verdict.Verdict.{Verdict as Audit}
 use Rattle.stability_audit.specs.declared.verdict.Verdict.TheVariants.{Stable, ResidentTwice, OverCapacity, Blocked}
 use Rattle.hrt_cli.specs.declared.limit.Limit.{Limit}
-use Rattle.hrt_cli.specs.declared.limit.Limit.TheVariants.{Residents, Hospitals, Pairs, TriedPairs, Terms, InstanceBytes, PairsBytes}
+use Rattle.hrt_cli.specs.declared.limit.Limit.TheVariants.{Residents, Hospitals, Pairs, TriedPairs, Terms, InstanceBytes, PairsBytes, ModelBytes, Variables, Rows, ProofBytes}
+use Rattle.hrt_cli.specs.declared.stop.ModelKind.{ModelKind}
+use Rattle.hrt_cli.specs.declared.stop.ModelKind.TheVariants.{Syntax, TooBig}
 use Rattle.hrt_cli.specs.declared.status.Status.{Status}
-use Rattle.hrt_cli.specs.declared.status.Status.TheVariants.{Done, Misused, InstanceRefused, LimitExceeded, AuditNo, PairsRefused}
+use Rattle.hrt_cli.specs.declared.status.Status.TheVariants.{Done, Misused, InstanceRefused, LimitExceeded, ProofRefused, AuditNo, PairsRefused}
 use Rattle.hrt_cli.specs.Limits.{most}
-use Rattle.hrt_cli.specs.Requests.{Request, solve, audit, model}
+use Rattle.hrt_cli.specs.Requests.{Request, solve, audit, model, verify, check}
 
 -- why a file isn't taken
 pub data Rejection : Type 0 where
   refused : Refusal → Rejection  -- it spells no instance, with the line and the kind
   exceeded : Limit → Rejection  -- there is too much of something
   pairs_refused : Refusal → Rejection  -- it spells no pairs of the instance
+  model_refused : ModelKind → ℕ → Rejection  -- it spells no model, with the kind and the line
+  proof_refused : RefusalAt → Rejection  -- a line of the proof is no step
+  truncated : Rejection  -- the proof ends before its end line
 
 pub data Verdict : Type 0 where
   misused : Verdict  -- the words ask for nothing
@@ -27,6 +42,8 @@ pub data Verdict : Type 0 where
   solved : Lists → Verdict  -- the pairs of a best matching are due
   audited : Lists → List ℕ → Verdict  -- whether these pairs are weakly stable is due
   modeled : Lists → Verdict  -- the model is due
+  verified : Claim → Verdict  -- the proof of the instance's model is valid, with this claim
+  checked : Claim → Verdict  -- the proof of the model is valid, with this claim
 
 -- the files by their names
 abbrev pub Files : Type 0
@@ -83,21 +100,82 @@ on_file (Some bytes) pairs = on_lists (of_few_terms (within Pairs (lists_in byte
 abbrev pub model_verdict : List ℕ → Verdict
 model_verdict bytes = due (of_few_terms (within Pairs (lists_in bytes))) modeled
 
+-- ---- models and proofs
+
+-- the formula of the lists' model
+abbrev pub model_of : Result Lists Rejection → Result Formula Rejection
+model_of (Err rejection) = Err rejection
+model_of (Ok lists) = Ok (formula lists)
+
+-- the formula of the model of the instance that the bytes spell
+abbrev pub formula_of_instance : List ℕ → Result Formula Rejection
+formula_of_instance bytes = model_of (of_few_terms (within Pairs (lists_in bytes)))
+
+-- the formula, unless it is refused. Want of memory is no text's refusal.
+abbrev pub unless_model_refused : Option OpbRefusal → Formula → Result Formula Rejection
+unless_model_refused None f = Ok f
+unless_model_refused (Some (opb.Syntax k)) f = Err (model_refused Syntax k)
+unless_model_refused (Some (opb.TooBig k)) f = Err (model_refused TooBig k)
+unless_model_refused (Some (opb.TooManyVariables k)) f = Err (exceeded Variables)
+unless_model_refused (Some (opb.TooManyRows k)) f = Err (exceeded Rows)
+unless_model_refused (Some opb.NoMemory) f = Ok f
+
+-- the formula that the bytes of a model spell, or why they are not taken
+abbrev pub formula_in : List ℕ → Result Formula Rejection
+formula_in bytes =
+    if nat_lt (most ModelBytes) (length bytes) then Err (exceeded ModelBytes)
+    else unless_model_refused (opb_refusal bytes) (formula_said (statements (lines_of bytes)))
+
+-- what is due for the verdict on a proof
+abbrev pub on_verdict : (Claim → Verdict) → text.Verdict → Verdict
+on_verdict done (text.Accepted claim) = done claim
+on_verdict done (text.Refused r) = rejected (proof_refused r)
+on_verdict done text.Truncated = rejected truncated
+
+-- the proof is within its limit, and this is due for it
+pub record IsJudgedAs (done : Claim → Verdict) (f : Formula) (bytes : List ℕ) (verdict : Verdict) : Type 0 where
+  pub short : length bytes ≤ most ProofBytes
+  pub judged : text.Verdict
+  pub has : HasVerdict f bytes judged
+  pub due : verdict ≡ on_verdict done judged
+
+-- what a proof of the formula comes to
+abbrev pub ProofComesTo : (Claim → Verdict) → Formula → List ℕ → Verdict → Type 0
+ProofComesTo done f bytes verdict = ((most ProofBytes < length bytes) × (verdict ≡ rejected (exceeded ProofBytes))) ⊎ IsJudgedAs done f bytes verdict
+
+-- the proof is looked at only where the formula is taken
+abbrev pub OnFormula : (Claim → Verdict) → Result Formula Rejection → Option (List ℕ) → Verdict → Type 0
+OnFormula done (Err rejection) proof verdict = verdict ≡ rejected rejection
+OnFormula done (Ok f) proof verdict = (bytes : List ℕ) × (proof ≡ Some bytes) × ProofComesTo done f bytes verdict
+
+-- what a file with a formula, which is had by reading its bytes, and a file with a proof come to
+abbrev pub OnFiles : (Claim → Verdict) → (List ℕ → Result Formula Rejection) → Option (List ℕ) → Option (List ℕ) → Verdict → Type 0
+OnFiles done read input proof verdict = (bytes : List ℕ) × (input ≡ Some bytes) × OnFormula done (read bytes) proof verdict
+
+-- ---- all of them
+
 -- what the words and the files come to: nothing where a file that is read is absent
 abbrev pub ComesTo : Option Request → Files → Verdict → Type 0
 ComesTo None files verdict = verdict ≡ misused
 ComesTo (Some (solve instance)) files verdict = option_map solve_verdict (files instance) ≡ Some verdict
 ComesTo (Some (audit instance pairs)) files verdict = on_file (files instance) (files pairs) ≡ Some verdict
 ComesTo (Some (model instance file)) files verdict = option_map model_verdict (files instance) ≡ Some verdict
+ComesTo (Some (verify instance proof)) files verdict = OnFiles verified formula_of_instance (files instance) (files proof) verdict
+ComesTo (Some (check file proof)) files verdict = OnFiles checked formula_in (files file) (files proof) verdict
 
 abbrev pub status_of : Verdict → Status
 status_of (solved lists) = Done
 status_of (audited lists pairs) = if is_weakly_stable lists pairs then Done else AuditNo
 status_of (modeled lists) = Done
+status_of (verified claim) = Done
+status_of (checked claim) = Done
 status_of misused = Misused
 status_of (rejected (refused r)) = InstanceRefused
 status_of (rejected (exceeded limit)) = LimitExceeded
 status_of (rejected (pairs_refused r)) = PairsRefused
+status_of (rejected (model_refused kind line)) = ProofRefused
+status_of (rejected (proof_refused r)) = ProofRefused
+status_of (rejected truncated) = ProofRefused
 
 -- the status for what an audit says
 abbrev pub audit_status : Audit → Status

@@ -5,9 +5,11 @@ ghost use Rattle.hrt_reader.specs.PairsAnswer.{pairs_number};
 ghost use Rattle.hrt_cli.specs.Answers.{EndsFor, Explains};
 ghost use Rattle.hrt_cli.specs.Reports.{kind_word, pairs_kind_word, limit_line, place_line};
 
+use crate::refusals::{model_refusal_report, proof_refusal_report};
 use crate::{Ended, Limit, Report, Status, Stop};
 use hrt_base::NoMemory;
 use hrt_reader::{PairsKind, ReadKind};
+use itoa::Buffer;
 use std::alloc::Global;
 
 /// A status with its report.
@@ -35,6 +37,14 @@ pub fn explain(alloc: Global, stop: Stop) -> Result<Answer, Ended>
             status: Status::PairsRefused,
             report: pairs_refusal_report(alloc, kind, line)?,
         }),
+        Stop::ModelRefused { kind, line } => Ok(Answer {
+            status: Status::ProofRefused,
+            report: model_refusal_report(alloc, kind, line)?,
+        }),
+        Stop::ProofRefused(refusal) => Ok(Answer {
+            status: Status::ProofRefused,
+            report: proof_refusal_report(alloc, refusal)?,
+        }),
         Stop::ReadFault => Err(Ended::ReadFault),
         Stop::NoMemory => Err(Ended::NoMemory),
     }
@@ -45,7 +55,7 @@ fn refusal_report(alloc: Global, kind: ReadKind, line: u32) -> Result<Report, No
 {
     let mut report = Report::new(alloc);
     report.push("instance refused line ".as_bytes())?;
-    report.push_place(line, kind_name(kind))?;
+    report.push_place(u64::from(line), kind_name(kind))?;
     Ok(report)
 }
 
@@ -54,7 +64,7 @@ fn pairs_refusal_report(alloc: Global, kind: PairsKind, line: u32) -> Result<Rep
 {
     let mut report = Report::new(alloc);
     report.push("pairs refused line ".as_bytes())?;
-    report.push_place(line, pairs_kind_name(kind))?;
+    report.push_place(u64::from(line), pairs_kind_name(kind))?;
     Ok(report)
 }
 
@@ -62,8 +72,9 @@ fn limit_report(alloc: Global, limit: Limit) -> Result<Report, NoMemory>
     ensures { IfOk result (λ report. report ≡ limit_line limit) }
 {
     let mut report = Report::new(alloc);
+    let mut buffer = Buffer::new();
     report.push(b"limit ")?;
-    report.push_count(limit.name(), limit.most())?;
+    report.push_value(limit.name(), buffer.format(limit.most()))?;
     Ok(report)
 }
 

@@ -3,15 +3,21 @@
 
 mod answer;
 mod auditing;
+mod checking;
+mod claims;
+mod formulas;
 mod input;
+mod judging;
 mod limit;
 mod loading;
 mod modeling;
 mod program;
+mod refusals;
 mod report;
 mod solve;
 mod status;
 mod stop;
+mod verifying;
 mod words;
 
 use answer::{Answer, explain};
@@ -19,5 +25,5 @@ use limit::Limit;
 pub use program::run;
 use report::Report;
 use status::Status;
-use stop::{Ended, Stop};
+use stop::{Ended, ModelKind, Stop};
 use words::{Command, command_of};

@@ -14,6 +14,12 @@ pub enum Limit {
     Terms,
     InstanceBytes,
     PairsBytes,
+    ModelBytes,
+    /// The variables of a model.
+    Variables,
+    /// The rows of a model.
+    Rows,
+    ProofBytes,
 }
 
 impl Limit {
@@ -28,11 +34,15 @@ impl Limit {
             Limit::Terms => "terms",
             Limit::InstanceBytes => "instance-bytes",
             Limit::PairsBytes => "pairs-bytes",
+            Limit::ModelBytes => "model-bytes",
+            Limit::Variables => "variables",
+            Limit::Rows => "rows",
+            Limit::ProofBytes => "proof-bytes",
         }
     }
 
     /// The most of it that is taken.
-    pub fn most(self) -> u32
+    pub fn most(self) -> u64
         ensures { result ≡ most self }
     {
         match self {
@@ -41,6 +51,10 @@ impl Limit {
             Limit::TriedPairs => 12,
             Limit::Terms => 8_000_000,
             Limit::InstanceBytes | Limit::PairsBytes => 67_108_864,
+            Limit::ModelBytes => 268_435_456,
+            Limit::Variables => 100_000,
+            Limit::Rows => 1_000_000,
+            Limit::ProofBytes => 1 << 40,
         }
     }
 }

@@ -54,7 +54,7 @@ fn instance_in(alloc: Global, bytes: &[u8], limit: Limit) -> Result<Instance, St
 {
     match read_instance(alloc, bytes) {
         Ok(inst) => {
-            if inst.pairs() > limit.most() {
+            if u64::from(inst.pairs()) > limit.most() {
                 Err(Stop::Exceeded(limit))
             } else {
                 Ok(inst)

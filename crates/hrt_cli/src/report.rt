@@ -1,6 +1,6 @@
 // The text of a report.
 ghost use Rattle.std.specs.Prelude.{◌≡◌, ◌++◌, [], codes, OnOk};
-ghost use Rattle.hrt_cli.specs.Reports.{count_line, instance_lines, line, names_line, pair_line, place_line};
+ghost use Rattle.hrt_cli.specs.Reports.{count_line, instance_lines, line, names_line, number_or, pair_line, place_line, value_line};
 ghost use Rattle.rank_tables.specs.Tables.{IsPairNo};
 
 use hrt_base::{NoMemory, PairNo};
@@ -56,25 +56,45 @@ impl Report {
         self.push(b"\n")
     }
 
+    /// Adds a line of a word and what is said of it.
+    pub fn push_value(&mut self, word: &str, value: &str) -> Result<(), NoMemory>
+        ensures { OnOk result (self.new ≡ self.old ++ value_line word.now value.now) }
+    {
+        self.push(word.as_bytes())?;
+        self.push(b" ")?;
+        self.push_line(value)
+    }
+
     /// Adds a line of a word and a number.
     pub fn push_count(&mut self, word: &str, number: u32) -> Result<(), NoMemory>
         ensures { OnOk result (self.new ≡ self.old ++ count_line word.now number) }
     {
         let mut buffer = Buffer::new();
-        self.push(word.as_bytes())?;
-        self.push(b" ")?;
-        self.push(buffer.format(number).as_bytes())?;
-        self.push(b"\n")
+        self.push_value(word, buffer.format(number))
+    }
+
+    /// Adds a line of a word and a number, or another word where there is no number.
+    pub fn push_number(
+        &mut self,
+        word: &str,
+        number: Option<i128>,
+        other: &str,
+    ) -> Result<(), NoMemory>
+        ensures { OnOk result (self.new ≡ self.old ++ value_line word.now (number_or other.now number)) }
+    {
+        let Some(number) = number else {
+            return self.push_value(word, other);
+        };
+        let mut buffer = Buffer::new();
+        self.push_value(word, buffer.format(number))
     }
 
     /// Adds a number and what is there, to the end of the line.
-    pub fn push_place(&mut self, number: u32, what: &str) -> Result<(), NoMemory>
+    pub fn push_place(&mut self, number: u64, what: &str) -> Result<(), NoMemory>
         ensures { OnOk result (self.new ≡ self.old ++ place_line number what.now) }
     {
         let mut buffer = Buffer::new();
-        self.push(buffer.format(number).as_bytes())?;
-        self.push(b" ")?;
-        self.push_line(what)
+        self.push_value(buffer.format(number), what)
     }
 
     /// Adds the line that names a pair.

@@ -17,7 +17,7 @@ use rank_tables::Instance;
 use std::alloc::Global;
 
 /// Reads the instance and tries every set of its pairs.
-#[tactic(auto, using(crate::proofs::Solving::solved_due, crate::proofs::Solving::reads_instance))]
+#[tactic(auto, using(crate::proofs::Solving::solved_due, crate::proofs::ReadOut::reads_one))]
 pub fn solve<H: Host>(alloc: Global, host: &mut H, instance: &str) -> Result<Answer, Ended>
     requires { AtStart H.told (H.world host.old) }
     ensures answered { IfOk result (λ answer. IsAnswered H.told (Some (solve instance.now)) answer (H.world host.old) (H.world host.new)) }

@@ -12,6 +12,8 @@ pub enum Status {
     WriteFault,
     NoMemory,
     LimitExceeded,
+    /// The proof, or the model that it is a proof of.
+    ProofRefused,
     AuditNo,
     PairsRefused,
 }
@@ -29,6 +31,7 @@ impl Status {
             Status::WriteFault => 5,
             Status::NoMemory => 6,
             Status::LimitExceeded => 7,
+            Status::ProofRefused => 8,
             Status::AuditNo => 9,
             Status::PairsRefused => 12,
         }

@@ -11,6 +11,10 @@ pub enum Command<'a> {
     Audit(&'a str, &'a str),
     /// The instance, and the file of its model.
     Model(&'a str, &'a str),
+    /// The instance and the proof.
+    Verify(&'a str, &'a str),
+    /// The model and the proof.
+    Check(&'a str, &'a str),
 }
 
 /// The command that the words spell, if they spell one.
@@ -29,6 +33,14 @@ pub fn command_of<'a>(words: &'a [String]) -> Option<Command<'a>>
         "model" => {
             let (instance, file) = two_files(files)?;
             Some(Command::Model(instance, file))
+        }
+        "verify" => {
+            let (instance, proof) = two_files(files)?;
+            Some(Command::Verify(instance, proof))
+        }
+        "check" => {
+            let (model, proof) = two_files(files)?;
+            Some(Command::Check(model, proof))
         }
         _ => None,
     }

@@ -1,5 +1,7 @@
 //! Each call of the host failing in turn, and calls that move little.
+use crate::models::WORKED_MODEL;
 use crate::runs::{WORKED, host_with, words};
+use crate::verifies::WORKED_PROOF;
 use hrt_base::Port;
 use hrt_cli::run;
 use std::test::Fail;
@@ -8,44 +10,75 @@ use std::test::Fail;
 const SOLVE_READS: u64 = 3;
 
 const SOLVE_CALLS: u64 = 5;
-// the same twice for the instance and the pairs
-const AUDIT_READS: u64 = 6;
+// the same twice for two inputs
+const TWO_READS: u64 = 6;
 
-const AUDIT_CALLS: u64 = 8;
+const TWO_CALLS: u64 = 8;
+
+// A run of words over the files `i` and `q`: its reads, its calls and its report.
+struct Case<'a> {
+    words: &'a [&'a str],
+    first: &'a [u8],
+    second: &'a [u8],
+    reads: u64,
+    calls: u64,
+    report: &'a [u8],
+}
+
+const CASES: [Case<'static>; 4] = [
+    Case {
+        words: &["solve", "i"],
+        first: WORKED,
+        second: b"",
+        reads: SOLVE_READS,
+        calls: SOLVE_CALLS,
+        report: b"residents 2\nhospitals 2\npairs 3\none-sided 0\npair a y\npair b x\nsize 2\nbest\n",
+    },
+    Case {
+        words: &["audit", "i", "q"],
+        first: WORKED,
+        second: b"pair a x\n",
+        reads: TWO_READS,
+        calls: TWO_CALLS,
+        report: b"stable\nsize 1\n",
+    },
+    Case {
+        words: &["verify", "i", "q"],
+        first: WORKED,
+        second: WORKED_PROOF,
+        reads: TWO_READS,
+        calls: TWO_CALLS,
+        report: b"accepted\nbound 2\nfound 2\n",
+    },
+    Case {
+        words: &["check", "i", "q"],
+        first: WORKED_MODEL,
+        second: WORKED_PROOF,
+        reads: TWO_READS,
+        calls: TWO_CALLS,
+        report: b"accepted\nlower -2\nupper -2\n",
+    },
+];
 
 #[test]
 fn each_call_fails_in_turn(rt: HostRuntime) -> Result<(), Fail> {
     let alloc = rt.alloc();
-    let cases: [(&[&str], u64, u64, &[u8]); 2] = [
-        (
-            &["solve", "i"],
-            SOLVE_READS,
-            SOLVE_CALLS,
-            b"residents 2\nhospitals 2\npairs 3\none-sided 0\npair a y\npair b x\nsize 2\nbest\n",
-        ),
-        (
-            &["audit", "i", "q"],
-            AUDIT_READS,
-            AUDIT_CALLS,
-            b"stable\nsize 1\n",
-        ),
-    ];
-    for (texts, reads, calls, report) in cases.iter() {
-        let words = words(alloc, texts)?;
-        for call in 1..*calls + 2 {
-            let mut host = host_with(alloc, WORKED, b"pair a x\n")?;
+    for case in CASES.iter() {
+        let words = words(alloc, case.words)?;
+        for call in 1..case.calls + 2 {
+            let mut host = host_with(alloc, case.first, case.second)?;
             host.fail_at(call)?;
             let code = run(alloc, &words, &mut host);
             let sent = host.sent(Port::Report);
-            if call <= *reads {
+            if call <= case.reads {
                 assert_eq!(rt; code, 4, "at call {call}");
                 assert_eq!(rt; sent, b"".as_slice());
-            } else if call <= *calls {
+            } else if call <= case.calls {
                 assert_eq!(rt; code, 5, "at call {call}");
-                assert!(rt; report.starts_with(sent));
+                assert!(rt; case.report.starts_with(sent));
             } else {
                 assert_eq!(rt; code, 0, "at call {call}");
-                assert_eq!(rt; sent, *report);
+                assert_eq!(rt; sent, case.report);
             }
         }
     }
@@ -55,20 +88,13 @@ fn each_call_fails_in_turn(rt: HostRuntime) -> Result<(), Fail> {
 #[test]
 fn calls_that_move_little_change_no_byte(rt: HostRuntime) -> Result<(), Fail> {
     let alloc = rt.alloc();
-    let cases: [(&[&str], &[u8]); 2] = [
-        (
-            &["solve", "i"],
-            b"residents 2\nhospitals 2\npairs 3\none-sided 0\npair a y\npair b x\nsize 2\nbest\n",
-        ),
-        (&["audit", "i", "q"], b"stable\nsize 1\n"),
-    ];
-    for (texts, report) in cases.iter() {
-        let words = words(alloc, texts)?;
+    for case in CASES.iter() {
+        let words = words(alloc, case.words)?;
         for most in [1, 3, 16] {
-            let mut host = host_with(alloc, WORKED, b"pair a x\n")?;
+            let mut host = host_with(alloc, case.first, case.second)?;
             host.piece(most);
             assert_eq!(rt; run(alloc, &words, &mut host), 0);
-            assert_eq!(rt; host.sent(Port::Report), *report);
+            assert_eq!(rt; host.sent(Port::Report), case.report);
         }
     }
     Ok(())

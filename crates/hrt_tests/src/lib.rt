@@ -4,6 +4,8 @@
 #[cfg(test)]
 mod audits;
 #[cfg(test)]
+mod checks;
+#[cfg(test)]
 mod definition;
 #[cfg(test)]
 mod faults;
@@ -21,3 +23,5 @@ mod runs;
 mod solves;
 #[cfg(test)]
 mod texts;
+#[cfg(test)]
+mod verifies;

@@ -12,7 +12,8 @@ use stability_model::Model;
 use std::alloc::Global;
 use std::test::Fail;
 
-const WORKED_MODEL: &[u8] =
+/// The model of the instance on which most tests run.
+pub const WORKED_MODEL: &[u8] =
     b"* #variable= 3 #constraint= 7\nmin: -1 x1 -1 x2 -1 x3 ;\n-1 x1 -1 x2 >= -1 ;\n-1 x3 >= -1 ;\n-1 x1 -1 x3 >= -1 ;\n-1 x2 >= -1 ;\n+2 x1 +1 x3 >= 1 ;\n+1 x1 +2 x2 >= 1 ;\n+1 x1 +2 x3 >= 1 ;\n";
 
 // A run of `model i m`, with calls that move at most so many bytes, of which this one fails.

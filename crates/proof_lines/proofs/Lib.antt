@@ -1,3 +1,4 @@
+pub mod BlankLine
 pub mod Bounds
 pub mod EndLine
 pub mod Fronts

@@ -1,7 +1,7 @@
 -- What the first line of some bytes reads as.
 use Rattle.std.specs.Prelude.{◌≡◌, ℕ, ◌+◌, Bool, false, true, ◌==◌, if◌then◌else◌, List, take, position, Option, Some, None, Result, Ok, Err}
 use Rattle.proof_lines.specs.declared.line.Line.{Line}
-use Rattle.proof_lines.specs.declared.line.Line.TheVariants.{Rup, Conclusion, End}
+use Rattle.proof_lines.specs.declared.line.Line.TheVariants.{Rup, Conclusion, End, Blank}
 use Rattle.proof_lines.specs.declared.refusal.LineKind.{LineKind}
 use Rattle.proof_lines.specs.declared.refusal.LineKind.TheVariants.{Pol as pol_kind, Rup as rup_kind, Conclusion as conclusion_kind}
 use Rattle.proof_lines.specs.declared.refusal.LineRefusal.{LineRefusal}
@@ -48,3 +48,12 @@ is_end (Some line) = false
 -- the bytes are the end line, without a line feed
 abbrev pub is_end_text : List ℕ → Bool
 is_end_text bytes = is_end (read_line bytes)
+
+abbrev pub is_blank : Option Line → Bool
+is_blank None = false
+is_blank (Some Blank) = true
+is_blank (Some line) = false
+
+-- the bytes are a blank line, without a line feed
+abbrev pub is_blank_text : List ℕ → Bool
+is_blank_text bytes = is_blank (read_line bytes)

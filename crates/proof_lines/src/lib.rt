@@ -1,6 +1,7 @@
 //! The lines of proofs: what they are, how they are spelled and read, and the notes that the solver writes between them.
 #![tactic(auto)]
 
+mod blank;
 mod claims;
 mod first;
 mod items;
@@ -14,6 +15,7 @@ mod refusal;
 mod steps;
 mod writing;
 
+pub use blank::is_blank_text;
 pub use first::{is_end_text, next_line};
 pub use line::{Claim, Line, PolStep};
 pub use list::{Ids, List, Lits, PolSteps, Vars};

@@ -25,7 +25,7 @@ use Rattle.proof_rules.proofs.Verdicts.{texts_sound}
 
 -- ---- the model's rows
 
-all_rise : (ws : List Written) → All (λ (row : PlainRow). IsRisingFrom 0 row.terms) (map in_normal_form ws)
+pub all_rise : (ws : List Written) → All (λ (row : PlainRow). IsRisingFrom 0 row.terms) (map in_normal_form ws)
 all_rise [] = All-nil (λ (row : PlainRow). IsRisingFrom 0 row.terms)
 all_rise (w ∷ ws) = All-cons (λ (row : PlainRow). IsRisingFrom 0 row.terms) (in_normal_form w) (map in_normal_form ws) (joined_rising (var_bound w.terms) w.terms) (all_rise ws)
 

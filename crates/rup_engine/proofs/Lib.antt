@@ -10,3 +10,4 @@ pub mod Closings
 pub mod Listing
 pub mod Changing
 mod Looks
+mod Alike

@@ -2,7 +2,7 @@
 use Rattle.std.specs.Prelude.{◌≡◌, ◌≤◌, ◌^◌, ℕ, List, [], ◌∷◌, Option, Some, None, slice_index_or}
 use Rattle.std.specs.List.{All}
 use Rattle.hrt_base.specs.declared.literal.Term.{Term}
-use Rattle.pb_rows.specs.Terms.{coef_sum}
+use Rattle.pb_rows.specs.Terms.{PlainRow, coef_sum}
 use Rattle.pb_rows.specs.Closure.{Keeps, Literals}
 use Rattle.pb_rows.specs.Formula.{NumberedRow}
 use Rattle.rup_engine.specs.declared.store.Slot.{Slot}
@@ -36,6 +36,11 @@ IsOverSlot vars (Some s) = IsOver vars s.row
 abbrev pub HasNumber : ℕ → Option Slot → Type 0
 HasNumber n None = ⊥
 HasNumber n (Some s) = s.number.0 ≡ n
+
+-- it holds a row that has the terms of this one, and at least its degree
+abbrev pub IsStrongSlot : PlainRow → Option Slot → Type 0
+IsStrongSlot row None = ⊥
+IsStrongSlot row (Some s) = (s.row.terms ≡ row.terms) × (row.degree ≤ s.row.degree)
 
 abbrev pub KeepsSlot : Literals → Option Slot → Type 0
 KeepsSlot set None = Unit {0}

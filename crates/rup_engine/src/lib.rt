@@ -12,6 +12,7 @@ mod plain;
 mod progress;
 mod propagation;
 mod store;
+mod stronger;
 mod sums;
 #[cfg(test)]
 mod tests;

@@ -1,7 +1,8 @@
 // The live rows.
-ghost use Rattle.std.specs.Prelude.{◌≡◌, ◌↔◌, [], ◌∷◌, ◌++◌, IsTrue, IsFalse, IsSome, IfOk, IfSome, OnOk, OnErr};
+ghost use Rattle.std.specs.Prelude.{◌≡◌, ◌≤◌, ◌↔◌, Contains, [], ◌∷◌, ◌++◌, IsTrue, IsFalse, IsSome, IfOk, IfSome, OnOk, OnErr};
 ghost use Rattle.std.specs.List.{All, IsDistinct};
 ghost use Rattle.std.specs.Option.{option_copied};
+ghost use Rattle.pb_rows.specs.Terms.{PlainRow};
 ghost use Rattle.pb_rows.specs.Points.{IsCovered};
 ghost use Rattle.pb_rows.specs.Closure.{Implies, IsClosure, Refuted, among, is_same_lit};
 ghost use Rattle.pb_rows.specs.Formula.{is_numbered, row_of, rows_of, without};
@@ -12,6 +13,7 @@ use crate::closing::{close, contradicts};
 use crate::opposite::Opposite;
 use crate::progress::{Progress, undo};
 use crate::store::{Slot, Store};
+use crate::stronger::any_as_strong;
 use hrt_base::{Lit, NoMemory, RowNo};
 use pb_rows::Row;
 use std::alloc::Global;
@@ -79,6 +81,13 @@ impl Live {
             None => None,
             Some(place) => row_at(&self.store.slots, place, id),
         }
+    }
+
+    /// Tells whether a row has the terms of this one, and at least its degree.
+    pub fn has_stronger(&self, row: &Row) -> bool
+        ensures { IsTrue result ↔ ((other : PlainRow) × Contains (rows_of self.now.rows) other × (other.terms ≡ row.now.terms) × (row.now.degree ≤ other.degree)) }
+    {
+        any_as_strong(&self.store.slots, row)
     }
 
     /// Removes the row of a number, and tells whether there was one.

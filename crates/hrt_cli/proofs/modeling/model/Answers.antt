@@ -1,4 +1,4 @@
-use Rattle.hrt_cli.proofs.WrittenModels.{model_answers, model_gives_up, stop_answers, stop_gives_up}
+use Rattle.hrt_cli.proofs.WrittenModels.{model_answers, model_gives_up}
 use Rattle.hrt_cli.proofs.modeling.model.Goals as goal
 
 pub returns-in-Ok-clause-worked : goal.returns-in-Ok-clause-worked

@@ -3,8 +3,15 @@ use Rattle.hrt_base.specs.declared.port.Port.TheVariants.{Report}
 use Rattle.hrt_base.specs.Calls.{SentPart}
 use Rattle.hrt_cli.specs.Requests.{Request}
 use Rattle.hrt_cli.specs.Answers.{CutShort}
-use Rattle.hrt_cli.proofs.Runs.{cut_short, misused_cut}
+use Rattle.hrt_cli.specs.declared.status.Status.TheVariants.{Misused}
+use Rattle.hrt_cli.specs.Runs.{Reported}
+use Rattle.hrt_cli.proofs.Runs.{cut_short, misused_cut, misused_whole}
 use Rattle.hrt_cli.proofs.program.carry_out.Goals as goal
+
+pub returns-in-Ok : goal.returns-in-Ok
+returns-in-Ok g c =
+    subst (λ (r : Option Request). Reported g.H.Host.told r Misused (g.H.Host.world c.args.host.now) (g.H.Host.world c.send.new.host)) c.in_default.ensures
+    (misused_whole _ _ _ _ c.requires refl c.in-Ok.ensures.sent)
 
 pub returns-in-Err : goal.returns-in-Err
 returns-in-Err g c =

@@ -1,0 +1,255 @@
+-- What the commands that check a proof come to.
+use Rattle.std.proofs.Common.{◌≡◌, ◌⊎◌, ℕ, List, [], Option, Some, Result, Ok, Err, IfErr, IfOk, IfSome, IsTrue, refl, sym, ◌∙◌, ap, subst, inl, inr}
+use Rattle.hrt_base.specs.declared.port.Port.{Port}
+use Rattle.hrt_base.specs.declared.port.Port.TheVariants.{Instance, Model, Proof}
+use Rattle.hrt_base.specs.Calls.{AtStart}
+use Rattle.hrt_base.specs.World.{World, Content}
+use Rattle.rank_tables.specs.Instance.{Lists}
+use Rattle.pb_rows.specs.Formula.{Formula}
+use Rattle.stability_model.specs.Model.{formula}
+use Rattle.hrt_reader.specs.Kinds.{number}
+use Rattle.proof_lines.specs.declared.line.Claim.{Claim}
+use Rattle.proof_rules.specs.Texts as text
+use Rattle.proof_checker.specs.Answers.{refusal_verdict}
+use Rattle.hrt_cli.specs.declared.answer.Answer.{Answer}
+use Rattle.hrt_cli.specs.declared.limit.Limit.{Limit}
+use Rattle.hrt_cli.specs.declared.limit.Limit.TheVariants as limit
+use Rattle.hrt_cli.specs.declared.status.Status.{Status}
+use Rattle.hrt_cli.specs.declared.stop.Ended.{Ended}
+use Rattle.hrt_cli.specs.declared.stop.Ended.TheVariants as ended
+use Rattle.hrt_cli.specs.declared.stop.Stop.{Stop}
+use Rattle.hrt_cli.specs.declared.stop.Stop.TheVariants.{Refused, Exceeded, PairsRefused, ModelRefused, ProofRefused, ReadFault, NoMemory}
+use Rattle.hrt_cli.specs.Answers.{EndsFor, Explains, GivesUp, IsAnswer, IsAnswered, PassedAt, is_on_files}
+use Rattle.hrt_cli.specs.Inputs.{IsTooLong, OnlyRead}
+use Rattle.hrt_cli.specs.Limits.{most}
+use Rattle.hrt_cli.specs.Loading.{IsLoaded, IsRejected, StopsLoading}
+use Rattle.hrt_cli.specs.Proofs.{IsFormulaRead, IsFormulaRejected, IsProofJudged, StopsModel, StopsProof}
+use Rattle.hrt_cli.specs.Requests.{Request, check, verify}
+use Rattle.hrt_cli.specs.Verdicts.{ComesTo, Files, OnFiles, OnFormula, ProofComesTo, Rejection, Verdict, checked, exceeded, formula_in, formula_of_instance, model_of, on_verdict, refused, rejected, status_of, verified}
+use Rattle.hrt_cli.proofs.AuditedPairs.{passed_as}
+use Rattle.hrt_cli.proofs.ReadOut.{gives_up_after, reads_one, reads_two, rejection_on_files, then_only_read}
+
+-- ---- a command by its two files
+
+-- a request to check a proof, the file with the formula and how it is read, and what is due for a valid proof
+record Task : Type 0 where
+  request : Option Request
+  port : Port
+  input : List ℕ
+  proof : List ℕ
+  bytes_limit : Limit
+  read : List ℕ → Result Formula Rejection
+  done : Claim → Verdict
+  is_done : (claim : Claim) → IsTrue (is_on_files (status_of (done claim)))
+  passed : (l : List ℕ) (rejection : Rejection) → (l ≡ []) ⊎ (rejection ≡ exceeded bytes_limit) → (l ≡ []) ⊎ PassedAt (rejected rejection) port
+  comes_to : (files : Files) (verdict : Verdict) → OnFiles done read (files input) (files proof) verdict → ComesTo request files verdict
+
+abbrev verifying : List ℕ → List ℕ → Task
+verifying i p = record {
+  request = Some (verify i p);
+  port = Instance;
+  input = i;
+  proof = p;
+  bytes_limit = limit.InstanceBytes;
+  read = formula_of_instance;
+  done = verified;
+  is_done = λ claim. refl;
+  passed = λ l rejection out. passed_as rejection limit.InstanceBytes l out;
+  comes_to = λ files verdict on. on;
+}
+
+abbrev checking : List ℕ → List ℕ → Task
+checking m p = record {
+  request = Some (check m p);
+  port = Model;
+  input = m;
+  proof = p;
+  bytes_limit = limit.ModelBytes;
+  read = formula_in;
+  done = checked;
+  is_done = λ claim. refl;
+  passed = λ l rejection out. passed_as rejection limit.ModelBytes l out;
+  comes_to = λ files verdict on. on;
+}
+
+abbrev IsReadFor : (told : Type 0) → Task → Formula → World → World → Type 0
+IsReadFor told task f old new = IsFormulaRead told task.port task.input task.read f old new
+
+abbrev IsRejectedFor : (told : Type 0) → Task → Rejection → World → World → Type 0
+IsRejectedFor told task rejection old new = IsFormulaRejected told task.port task.input task.bytes_limit task.read rejection old new
+
+-- ---- what is answered
+
+task_rejected : (told : Type 0) (task : Task) (rejection : Rejection) (answer : Answer) (old new : World) → AtStart told old → IsRejectedFor told task rejection old new → IsAnswer (rejected rejection) answer
+    → IsAnswered told task.request answer old new
+task_rejected told task rejection answer old new start read answered = record {
+  only_read = read.only_read;
+  on_files = subst (λ (s : Status). IsTrue (is_on_files s)) (sym answered.status) (rejection_on_files rejection);
+  due = λ t.
+      let text = read.due t in
+      let on : OnFormula task.done (task.read text.0) (old.content.file task.proof) (rejected rejection) =
+      subst (λ (r : Result Formula Rejection). OnFormula task.done r (old.content.file task.proof) (rejected rejection)) (sym text.2) refl in (
+        rejected rejection,
+        task.comes_to old.content.file (rejected rejection) (text.0, text.1, on),
+        answered,
+        reads_one told task.port old new (rejected rejection) start read.begun (task.passed (new.content.rest task.port) rejection (read.out t)),
+      );
+}
+
+-- what both files come to
+task_due : (told : Type 0) (task : Task) (f : Formula) (bytes : List ℕ) (verdict : Verdict) (old mid : World) → IsReadFor told task f old mid → told → mid.content.file task.proof ≡ Some bytes
+    → ProofComesTo task.done f bytes verdict → ComesTo task.request old.content.file verdict
+task_due told task f bytes verdict old mid read t file comes =
+    let text = read.spelled t in
+    let same : old.content.file task.proof ≡ Some bytes = sym (ap (λ (c : Content). c.file task.proof) (read.content t)) ∙ file in
+    let on : OnFormula task.done (task.read text.0) (old.content.file task.proof) verdict =
+    subst (λ (r : Result Formula Rejection). OnFormula task.done r (old.content.file task.proof) verdict) (sym text.2) (bytes, same, comes) in
+    task.comes_to old.content.file verdict (text.0, text.1, on)
+
+verdict_on_files : (task : Task) (judged : text.Verdict) → IsTrue (is_on_files (status_of (on_verdict task.done judged)))
+verdict_on_files task (text.Accepted claim) = task.is_done claim
+verdict_on_files task (text.Refused r) = refl
+verdict_on_files task text.Truncated = refl
+
+task_judged : (told : Type 0) (task : Task) (f : Formula) (judged : text.Verdict) (answer : Answer) (old mid new : World) → AtStart told old → IsReadFor told task f old mid
+    → IsProofJudged told task.proof f judged mid new → IsAnswer (on_verdict task.done judged) answer → IsAnswered told task.request answer old new
+task_judged told task f judged answer old mid new start read proof answered = record {
+  only_read = then_only_read told old mid new read.only_read proof.only_read;
+  on_files = subst (λ (s : Status). IsTrue (is_on_files s)) (sym answered.status) (verdict_on_files task judged);
+  due = λ t.
+      let text = proof.judged t in (
+        on_verdict task.done judged,
+        task_due told task f text.0 (on_verdict task.done judged) old mid read t text.1 (inr (record { short = text.2; judged = judged; has = text.3; due = refl })),
+        answered,
+        reads_two told task.port Proof old mid new [] (on_verdict task.done judged) start read.begun (read.content t) proof.begun (proof.content t) (inl refl),
+      );
+}
+
+task_too_long : (told : Type 0) (task : Task) (f : Formula) (answer : Answer) (old mid new : World) → AtStart told old → IsReadFor told task f old mid
+    → IsTooLong told Proof task.proof (most limit.ProofBytes) mid new → IsAnswer (rejected (exceeded limit.ProofBytes)) answer → IsAnswered told task.request answer old new
+task_too_long told task f answer old mid new start read long answered = record {
+  only_read = then_only_read told old mid new read.only_read long.only_read;
+  on_files = subst (λ (s : Status). IsTrue (is_on_files s)) (sym answered.status) refl;
+  due = λ t.
+      let text = long.file t in (
+        rejected (exceeded limit.ProofBytes),
+        task_due told task f text.0 (rejected (exceeded limit.ProofBytes)) old mid read t text.1 (inl (text.2, refl)),
+        answered,
+        reads_two told task.port Proof old mid new (new.content.rest Proof) (rejected (exceeded limit.ProofBytes)) start read.begun (read.content t) long.begun (long.content t) (inr refl),
+      );
+}
+
+-- ---- proofs that aren't accepted
+
+-- the answer tells the verdict
+told_verdict : (done : Claim → Verdict) (o : Option text.Verdict) (judged : text.Verdict) (answer : Answer) → o ≡ Some judged → IfSome o (λ v. IsAnswer (on_verdict done v) answer) → IsAnswer (on_verdict done judged) answer
+told_verdict done o judged answer is tells = subst (λ (x : Option text.Verdict). IfSome x (λ v. IsAnswer (on_verdict done v) answer)) is tells
+
+proof_explained : (told : Type 0) (task : Task) (f : Formula) (stop : Stop) (answer : Answer) (old mid new : World) → AtStart told old → IsReadFor told task f old mid → StopsProof told task.proof f stop mid new
+    → Explains stop answer → IsAnswered told task.request answer old new
+proof_explained told task f (Refused kind line) answer old mid new start read stops tells = absurd stops
+proof_explained told task f (Exceeded what) answer old mid new start read stops tells =
+    task_too_long told task f answer old mid new start read stops.too_long (subst (λ (l : Limit). IsAnswer (rejected (exceeded l)) answer) stops.is tells)
+proof_explained told task f (PairsRefused kind line) answer old mid new start read stops tells = absurd stops
+proof_explained told task f (ModelRefused kind line) answer old mid new start read stops tells = absurd stops
+proof_explained told task f (ProofRefused refusal) answer old mid new start read stops tells =
+    task_judged told task f stops.verdict answer old mid new start read stops.judged (told_verdict task.done (refusal_verdict refusal) stops.verdict answer stops.is (tells task.done))
+proof_explained told task f ReadFault answer old mid new start read stops tells = absurd tells
+proof_explained told task f NoMemory answer old mid new start read stops tells = absurd tells
+
+proof_stopped : (told : Type 0) (task : Task) (f : Formula) (stop : Stop) (r : Result Answer Ended) (old mid new : World) → AtStart told old → IsReadFor told task f old mid → StopsProof told task.proof f stop mid new
+    → IfOk r (Explains stop) → IfOk r (λ answer. IsAnswered told task.request answer old new)
+proof_stopped told task f stop (Ok answer) old mid new start read stops tells = proof_explained told task f stop answer old mid new start read stops tells
+proof_stopped told task f stop (Err why) old mid new start read stops tells = tt
+
+proof_accepted : (told : Type 0) (task : Task) (f : Formula) (claim : Claim) (r : Result Answer Ended) (old mid new : World) → AtStart told old → IsReadFor told task f old mid
+    → IsProofJudged told task.proof f (text.Accepted claim) mid new → IfOk r (λ answer. IsAnswer (task.done claim) answer) → IfOk r (λ answer. IsAnswered told task.request answer old new)
+proof_accepted told task f claim (Ok answer) old mid new start read judged answered = task_judged told task f (text.Accepted claim) answer old mid new start read judged answered
+proof_accepted told task f claim (Err why) old mid new start read judged answered = tt
+
+-- what was read of a proof that isn't accepted
+proof_only_read : (told : Type 0) (name : List ℕ) (f : Formula) (stop : Stop) (mid new : World) → StopsProof told name f stop mid new → OnlyRead told mid new
+proof_only_read told name f (Refused kind line) mid new stops = absurd stops
+proof_only_read told name f (Exceeded what) mid new stops = stops.too_long.only_read
+proof_only_read told name f (PairsRefused kind line) mid new stops = absurd stops
+proof_only_read told name f (ModelRefused kind line) mid new stops = absurd stops
+proof_only_read told name f (ProofRefused refusal) mid new stops = stops.judged.only_read
+proof_only_read told name f ReadFault mid new stops = stops.only_read
+proof_only_read told name f NoMemory mid new stops = stops
+
+proof_given_up : (told : Type 0) (name : List ℕ) (f : Formula) (stop : Stop) (why : Ended) (mid new : World) → StopsProof told name f stop mid new → EndsFor stop why → GivesUp told why mid new
+proof_given_up told name f stop ended.ReadFault mid new stops ends = subst (λ (s : Stop). StopsProof told name f s mid new) ends stops
+proof_given_up told name f stop ended.WriteFault mid new stops ends = absurd ends
+proof_given_up told name f stop ended.NoMemory mid new stops ends = proof_only_read told name f stop mid new stops
+
+pub proof_ends : (told : Type 0) (name : List ℕ) (f : Formula) (stop : Stop) (r : Result Answer Ended) (old mid new : World) → OnlyRead told old mid → StopsProof told name f stop mid new
+    → IfErr r (EndsFor stop) → IfErr r (λ why. GivesUp told why old new)
+proof_ends told name f stop (Ok answer) old mid new first stops ends = tt
+proof_ends told name f stop (Err why) old mid new first stops ends = gives_up_after told why old mid new first (proof_given_up told name f stop why mid new stops ends)
+
+pub memory_ends : (told : Type 0) (r : Result Answer Ended) (old mid new : World) → OnlyRead told old mid → OnlyRead told mid new → IfErr r (λ why. why ≡ ended.NoMemory) → IfErr r (λ why. GivesUp told why old new)
+memory_ends told (Ok answer) old mid new first second is = tt
+memory_ends told (Err why) old mid new first second is = subst (λ (w : Ended). GivesUp told w old new) (sym is) (then_only_read told old mid new first second)
+
+-- ---- an instance and a proof
+
+pub loaded_read : (told : Type 0) (i : List ℕ) (lists : Lists) (old mid : World) → IsLoaded told i limit.Pairs lists old mid → IsFormulaRead told Instance i formula_of_instance (formula lists) old mid
+loaded_read told i lists old mid loaded = record {
+  only_read = loaded.only_read;
+  begun = loaded.begun;
+  content = loaded.content;
+  spelled = λ t. let text = loaded.spelled t in (text.0, text.1, ap model_of text.2);
+}
+
+instance_rejected : (told : Type 0) (i p : List ℕ) (rejection : Rejection) (answer : Answer) (old new : World) → AtStart told old → IsRejected told i limit.Pairs rejection old new → IsAnswer (rejected rejection) answer
+    → IsAnswered told (Some (verify i p)) answer old new
+instance_rejected told i p rejection answer old new start read answered =
+    task_rejected told (verifying i p) rejection answer old new start
+    (record {
+      only_read = read.only_read;
+      begun = read.begun;
+      out = read.out;
+      due = λ t. let text = read.due t in (text.0, text.1, ap model_of text.2);
+    })
+    answered
+
+pub instance_stopped : (told : Type 0) (i p : List ℕ) (stop : Stop) (r : Result Answer Ended) (old new : World) → AtStart told old → StopsLoading told i limit.Pairs stop old new
+    → IfOk r (Explains stop) → IfOk r (λ answer. IsAnswered told (Some (verify i p)) answer old new)
+instance_stopped told i p stop (Err why) old new start stops tells = tt
+instance_stopped told i p (Refused kind line) (Ok answer) old new start stops tells = instance_rejected told i p (refused (record { line = line; kind = number kind })) answer old new start stops tells
+instance_stopped told i p (Exceeded what) (Ok answer) old new start stops tells = instance_rejected told i p (exceeded what) answer old new start stops tells
+instance_stopped told i p (PairsRefused kind line) (Ok answer) old new start stops tells = absurd stops
+instance_stopped told i p (ModelRefused kind line) (Ok answer) old new start stops tells = absurd stops
+instance_stopped told i p (ProofRefused refusal) (Ok answer) old new start stops tells = absurd stops
+instance_stopped told i p ReadFault (Ok answer) old new start stops tells = absurd tells
+instance_stopped told i p NoMemory (Ok answer) old new start stops tells = absurd tells
+
+pub verify_stopped : (told : Type 0) (i p : List ℕ) (lists : Lists) (stop : Stop) (r : Result Answer Ended) (old mid new : World) → AtStart told old → IsLoaded told i limit.Pairs lists old mid
+    → StopsProof told p (formula lists) stop mid new → IfOk r (Explains stop) → IfOk r (λ answer. IsAnswered told (Some (verify i p)) answer old new)
+verify_stopped told i p lists stop r old mid new start loaded stops tells = proof_stopped told (verifying i p) (formula lists) stop r old mid new start (loaded_read told i lists old mid loaded) stops tells
+
+pub verify_accepted : (told : Type 0) (i p : List ℕ) (lists : Lists) (claim : Claim) (r : Result Answer Ended) (old mid new : World) → AtStart told old → IsLoaded told i limit.Pairs lists old mid
+    → IsProofJudged told p (formula lists) (text.Accepted claim) mid new → IfOk r (λ answer. IsAnswer (verified claim) answer) → IfOk r (λ answer. IsAnswered told (Some (verify i p)) answer old new)
+verify_accepted told i p lists claim r old mid new start loaded judged answered =
+    proof_accepted told (verifying i p) (formula lists) claim r old mid new start (loaded_read told i lists old mid loaded) judged answered
+
+-- ---- a model and a proof
+
+pub model_stopped : (told : Type 0) (m p : List ℕ) (stop : Stop) (r : Result Answer Ended) (old new : World) → AtStart told old → StopsModel told m stop old new
+    → IfOk r (Explains stop) → IfOk r (λ answer. IsAnswered told (Some (check m p)) answer old new)
+model_stopped told m p stop (Err why) old new start stops tells = tt
+model_stopped told m p (Refused kind line) (Ok answer) old new start stops tells = absurd stops
+model_stopped told m p (Exceeded what) (Ok answer) old new start stops tells = task_rejected told (checking m p) (exceeded what) answer old new start stops tells
+model_stopped told m p (PairsRefused kind line) (Ok answer) old new start stops tells = absurd stops
+model_stopped told m p (ModelRefused kind line) (Ok answer) old new start stops tells = task_rejected told (checking m p) _ answer old new start stops tells
+model_stopped told m p (ProofRefused refusal) (Ok answer) old new start stops tells = absurd stops
+model_stopped told m p ReadFault (Ok answer) old new start stops tells = absurd tells
+model_stopped told m p NoMemory (Ok answer) old new start stops tells = absurd tells
+
+pub check_stopped : (told : Type 0) (m p : List ℕ) (f : Formula) (stop : Stop) (r : Result Answer Ended) (old mid new : World) → AtStart told old → IsFormulaRead told Model m formula_in f old mid
+    → StopsProof told p f stop mid new → IfOk r (Explains stop) → IfOk r (λ answer. IsAnswered told (Some (check m p)) answer old new)
+check_stopped told m p f stop r old mid new start read stops tells = proof_stopped told (checking m p) f stop r old mid new start read stops tells
+
+pub check_accepted : (told : Type 0) (m p : List ℕ) (f : Formula) (claim : Claim) (r : Result Answer Ended) (old mid new : World) → AtStart told old → IsFormulaRead told Model m formula_in f old mid
+    → IsProofJudged told p f (text.Accepted claim) mid new → IfOk r (λ answer. IsAnswer (checked claim) answer) → IfOk r (λ answer. IsAnswered told (Some (check m p)) answer old new)
+check_accepted told m p f claim r old mid new start read judged answered = proof_accepted told (checking m p) f claim r old mid new start read judged answered

@@ -1,0 +1,10 @@
+use Rattle.hrt_cli.proofs.JudgedProofs.{verify_accepted, verify_stopped}
+use Rattle.hrt_cli.proofs.verifying.verify.Goals as goal
+
+pub returns-in-Ok-claim_on_instance-clause-answered : goal.returns-in-Ok-claim_on_instance-clause-answered
+returns-in-Ok-claim_on_instance-clause-answered g c =
+    verify_accepted _ _ _ _ _ _ _ _ _ c.requires c.in-Ok.ensures.loaded c.in-Ok-claim_on_instance.ensures.judged c.verified.ensures.answered
+
+pub returns-clause-answered : goal.returns-clause-answered
+returns-clause-answered g c =
+    verify_stopped _ _ _ _ _ _ _ _ _ c.requires c.in-Ok.ensures.loaded c.in-Err-claim_on_instance.ensures.stopped c.explain-in-Err-claim_on_instance.ensures.told

@@ -1,0 +1,42 @@
+// Models from files.
+ghost use Rattle.std.specs.Prelude.{◌≡◌, ◌≤◌, length, IfErr, IfOk, Ok};
+ghost use Rattle.opb_text.specs.Limits.{IsWithinLimits};
+ghost use Rattle.hrt_cli.specs.Proofs.{IsFormulaRead, StopsModel, StopsModelText};
+ghost use Rattle.hrt_cli.specs.Verdicts.{formula_in};
+
+use crate::input::read_file;
+use crate::{Limit, Stop};
+use hrt_base::{Begun, Host, Port, ReadEnd};
+use opb_text::{Formula, read_opb};
+use std::alloc::Global;
+
+/// The formula of the model in a file.
+pub fn load_formula<H: Host>(alloc: Global, host: &mut H, name: &str) -> Result<Formula, Stop>
+    requires { (H.world host.old).begun Port.Model ≡ Begun.Idle }
+    ensures read { IfOk result (λ f. IsFormulaRead H.told Port.Model name.now formula_in f (H.world host.old) (H.world host.new)) }
+    ensures within { IfOk result IsWithinLimits }
+    ensures stopped { IfErr result (λ stop. StopsModel H.told name.now stop (H.world host.old) (H.world host.new)) }
+{
+    match read_file(
+        alloc,
+        host,
+        Port::Model,
+        name,
+        Limit::ModelBytes.most() as usize,
+    ) {
+        Ok(bytes) => formula_from(alloc, &bytes),
+        Err(ReadEnd::TooLong) => Err(Stop::Exceeded(Limit::ModelBytes)),
+        Err(ReadEnd::Failed) => Err(Stop::ReadFault),
+        Err(ReadEnd::NoMemory) => Err(Stop::NoMemory),
+    }
+}
+
+// The formula that a text spells.
+fn formula_from(alloc: Global, bytes: &[u8]) -> Result<Formula, Stop>
+    requires { length bytes.now ≤ 268435456 }
+    ensures formula { IfOk result (λ f. formula_in bytes.now ≡ Ok f) }
+    ensures within { IfOk result IsWithinLimits }
+    ensures stopped { IfErr result (StopsModelText (formula_in bytes.now)) }
+{
+    Ok(read_opb(alloc, bytes)?)
+}

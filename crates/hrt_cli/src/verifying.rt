@@ -1,0 +1,48 @@
+// The command that checks a proof against an instance.
+ghost use Rattle.std.specs.Prelude.{◌≡◌, Some, IfErr, IfOk, IsTrue};
+ghost use Rattle.hrt_base.specs.Calls.{AtStart};
+ghost use Rattle.proof_lines.specs.Spelling.{is_small_claim};
+ghost use Rattle.hrt_cli.specs.Answers.{GivesUp, IsAnswer, IsAnswered};
+ghost use Rattle.hrt_cli.specs.Requests.{verify};
+ghost use Rattle.hrt_cli.specs.Verdicts.{verified};
+
+use crate::claims::verify_report;
+use crate::judging::claim_on_instance;
+use crate::loading::load;
+use crate::{Answer, Ended, Limit, Status, explain};
+use hrt_base::Host;
+use proof_lines::Claim;
+use std::alloc::Global;
+
+/// Reads the instance and then the proof, and tells what a valid proof says of weakly stable matchings.
+pub fn verify<H: Host>(
+    alloc: Global,
+    host: &mut H,
+    instance: &str,
+    proof: &str,
+) -> Result<Answer, Ended>
+    requires { AtStart H.told (H.world host.old) }
+    ensures answered { IfOk result (λ answer. IsAnswered H.told (Some (verify instance.now proof.now)) answer (H.world host.old) (H.world host.new)) }
+    ensures ended { IfErr result (λ ended. GivesUp H.told ended (H.world host.old) (H.world host.new)) }
+{
+    let inst = match load(alloc, host, instance, Limit::Pairs) {
+        Ok(inst) => inst,
+        Err(stop) => return explain(alloc, stop),
+    };
+    match claim_on_instance(alloc, host, proof, &inst) {
+        Ok(claim) => verified(alloc, claim),
+        Err(stop) => explain(alloc, stop),
+    }
+}
+
+// The answer for the claim of a valid proof.
+fn verified(alloc: Global, claim: Claim) -> Result<Answer, Ended>
+    requires { IsTrue (is_small_claim claim) }
+    ensures answered { IfOk result (λ answer. IsAnswer (verified claim) answer) }
+    ensures ended { IfErr result (λ e. e ≡ Ended.NoMemory) }
+{
+    Ok(Answer {
+        status: Status::Done,
+        report: verify_report(alloc, claim)?,
+    })
+}

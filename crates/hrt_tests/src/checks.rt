@@ -1,0 +1,102 @@
+//! Runs of `check`.
+use crate::models::WORKED_MODEL;
+use crate::runs::{Ended, WORKED, host_with, words};
+use crate::verifies::WORKED_PROOF;
+use hrt_base::{NoMemory, Port};
+use hrt_cli::run;
+use std::alloc::Global;
+use std::test::Fail;
+
+// A run of `check`.
+fn check(alloc: Global, model: &[u8], proof: &[u8]) -> Result<Ended, NoMemory> {
+    let mut host = host_with(alloc, model, proof)?;
+    let words = words(alloc, &["check", "i", "q"])?;
+    let code = run(alloc, &words, &mut host);
+    Ok(Ended { code, host })
+}
+
+#[test]
+fn models_and_proofs(rt: HostRuntime) -> Result<(), Fail> {
+    let alloc = rt.alloc();
+    let cases: [(&[u8], &[u8], u8, &[u8]); 10] = [
+        (
+            WORKED_MODEL,
+            WORKED_PROOF,
+            0,
+            b"accepted\nlower -2\nupper -2\n",
+        ),
+        (
+            WORKED_MODEL,
+            b"pseudo-Boolean proof version 2.0\nf 7\noutput NONE\nconclusion NONE\nend pseudo-Boolean proof\n",
+            0,
+            b"accepted\nno conclusion\n",
+        ),
+        (
+            WORKED_MODEL,
+            b"pseudo-Boolean proof version 2.0\nf 7\npol 1 2 +\noutput NONE\nconclusion BOUNDS -2 INF\nend pseudo-Boolean proof\n",
+            0,
+            b"accepted\nlower -2\nupper INF\n",
+        ),
+        (
+            b"+1 x1 >= 1 ;\n+1 ~x1 >= 1 ;\n",
+            b"pseudo-Boolean proof version 2.0\nf 2\noutput NONE\nconclusion UNSAT\nend pseudo-Boolean proof\n",
+            0,
+            b"accepted\nunsatisfiable\n",
+        ),
+        (
+            b"min: +3 x1 ;\n",
+            b"pseudo-Boolean proof version 2.0\nf 0\nsoli x1\noutput NONE\nconclusion BOUNDS -INF 3\nend pseudo-Boolean proof\n",
+            0,
+            b"accepted\nlower -INF\nupper 3\n",
+        ),
+        (
+            b"* #variable= 3 #constraint= 7\nmin: x1 x2 ;\n",
+            WORKED_PROOF,
+            8,
+            b"model refused line 2 Syntax\n",
+        ),
+        (
+            b"\n\n+1 x1 >= 1329227995784915872903807060280344576 ;\n",
+            WORKED_PROOF,
+            8,
+            b"model refused line 3 TooBig\n",
+        ),
+        (
+            b"+1 x100001 >= 1 ;\n",
+            WORKED_PROOF,
+            7,
+            b"limit variables 100000\n",
+        ),
+        (WORKED, WORKED_PROOF, 8, b"model refused line 1 Syntax\n"),
+        (b"", WORKED_PROOF, 8, b"proof refused line 2 WrongCount\n"),
+    ];
+    for (model, proof, code, report) in cases.iter() {
+        let ended = check(alloc, model, proof)?;
+        assert_eq!(rt; ended.host.sent(Port::Report), *report);
+        assert_eq!(rt; ended.code, *code);
+    }
+    Ok(())
+}
+
+#[test]
+fn words_of_both_commands(rt: HostRuntime) -> Result<(), Fail> {
+    let alloc = rt.alloc();
+    let cases: [&[&str]; 6] = [
+        &["check", "i"],
+        &["check", "i", "i"],
+        &["check", "i", "q", "q"],
+        &["verify", "i"],
+        &["verify", "i", "-q"],
+        &["Verify", "i", "q"],
+    ];
+    for texts in cases.iter() {
+        let words = words(alloc, texts)?;
+        let mut host = host_with(alloc, WORKED, WORKED_PROOF)?;
+        assert_eq!(rt; run(alloc, &words, &mut host), 2);
+        assert_eq!(rt;
+            host.sent(Port::Report),
+            b"words not understood\n".as_slice()
+        );
+    }
+    Ok(())
+}

@@ -1,0 +1,15 @@
+mod Carrying
+mod Living
+mod Passing
+mod Naming
+mod Covering
+mod Halting
+mod Agreeing
+mod Solving
+mod Following
+mod Sizes
+mod Showing
+mod Cutting
+mod Lasts
+mod Passed
+mod Judged

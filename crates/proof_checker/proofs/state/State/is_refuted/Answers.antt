@@ -1,0 +1,4 @@
+use Rattle.proof_checker.proofs.state.State.is_refuted.Goals as goal
+
+pub returns-clause-is : goal.returns-clause-is
+returns-clause-is c = rw (← c.self.view_is) c.closure.ensures.refuted

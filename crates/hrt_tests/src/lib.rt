@@ -18,6 +18,8 @@ mod points;
 #[cfg(test)]
 mod promotions;
 #[cfg(test)]
+mod reductions;
+#[cfg(test)]
 mod runs;
 #[cfg(test)]
 mod solves;

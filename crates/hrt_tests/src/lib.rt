@@ -20,6 +20,8 @@ mod points;
 #[cfg(test)]
 mod promotions;
 #[cfg(test)]
+mod reductions;
+#[cfg(test)]
 mod runs;
 #[cfg(test)]
 mod solves;

@@ -10,6 +10,7 @@ use Rattle.pb_rows.specs.Formula.{row_of}
 use Rattle.rank_tables.specs.Instance.{Lists, pair_count}
 use Rattle.rank_tables.specs.WellFormed.{IsWellFormed}
 use Rattle.stability_model.specs.Model.{rows}
+use Rattle.stability_model.specs.Gone.{ceiling}
 use Rattle.proof_lines.specs.declared.line.PolStep.{PolStep}
 use Rattle.proof_lines.specs.declared.line.Line.TheVariants.{Pol}
 use Rattle.proof_lines.specs.declared.note.Note.TheVariants.{Bound as BoundRow}
@@ -18,14 +19,14 @@ use Rattle.proof_lines.specs.Texts.{is_made_id, line_text, note_text}
 use Rattle.proof_rules.specs.Refusals.{Refusal, and_then}
 use Rattle.proof_rules.specs.Pol.{pol_row}
 use Rattle.proof_rules.specs.States.{IsInOrder, State, with_row}
-use Rattle.derivation.specs.Deletions.{AreUnitRows, Deletions}
+use Rattle.derivation.specs.Deletions.{AreUnitRows, Deletions, is_deleted}
 use Rattle.derivation.specs.Derived.{Derived}
 use Rattle.derivation.specs.Ready.{IsReady}
 use Rattle.derivation.specs.Steps.{IsWritable, Takes, with_new_row, with_note}
 use Rattle.derivation.proofs.Readiness.{ready_note, ready_row, row_last, row_numbered}
-use Rattle.capacity_bound.specs.Steps.{bound_steps}
+use Rattle.capacity_bound.specs.Steps.{AddsRows, bound_operands}
 use Rattle.capacity_bound.specs.Bound.{DerivesBound, StopsEarly, bound_row, with_bound, with_bound_row}
-use Rattle.capacity_bound.proofs.BoundLine.{bound_made, bound_writable}
+use Rattle.capacity_bound.proofs.BoundLine.{AddsUp, bound_adds_up}
 
 -- ---- notes of rows
 
@@ -49,42 +50,49 @@ taken_row steps old new row made taken =
 
 -- ---- the bound row
 
-module _ (lists : Lists) (deletions : Deletions) (old : Derived) (same : old.lists ≡ lists) (ready : IsReady old) (order : IsInOrder old.state) (few : old.state.next < 10 ^ 18) (units : AreUnitRows old.state.live deletions) (most : pair_count lists ≤ 100000) (formed : IsWellFormed lists) (some : 0 < pair_count lists) (steps : List PolStep) (are : steps ≡ bound_steps lists deletions) where
+module _ (lists : Lists) (deletions : Deletions) (old : Derived) (same : old.lists ≡ lists) (ready : IsReady old) (order : IsInOrder old.state) (few : old.state.next < 10 ^ 18) (units : AreUnitRows old.state.live deletions) (most : pair_count lists ≤ 100000) (formed : IsWellFormed lists) (some : 0 < pair_count lists) where
   model : (k : ℕ) → 1 ≤ k → k ≤ length (rows lists) → row_of k old.state.live ≡ slice_get (rows lists) (k - 1)
   model = subst (λ (l : Lists). (k : ℕ) → 1 ≤ k → k ≤ length (rows l) → row_of k old.state.live ≡ slice_get (rows l) (k - 1)) same ready.model_live
 
-  pub line_writable : IsWritable (Pol steps)
-  line_writable = subst (λ (s : List PolStep). IsWritable (Pol s)) (sym are) (bound_writable lists deletions old.state.live old.state.next order (omega arith) units model most formed some)
+  up : AddsUp (pair_count lists) old.state.live (bound_operands lists deletions) (ceiling lists (is_deleted deletions))
+  up = bound_adds_up lists deletions old.state.live old.state.next order (omega arith) units model most formed some
 
-  row_made : pol_row (pair_count old.lists) old.state.live steps ≡ Ok (bound_row lists deletions)
-  row_made = ap₂ (λ (l : Lists) (s : List PolStep). pol_row (pair_count l) old.state.live s) same are ∙ bound_made lists deletions old.state.live old.state.next order (omega arith) units model most formed some
+  pub operands_some : (operands : List PolStep) → operands ≡ bound_operands lists deletions → 0 < length operands
+  operands_some operands are = omega (arith, ap length are, up.some)
 
-  pub line_makes : IsOk (pol_row (pair_count old.lists) old.state.live steps)
-  line_makes = ap (λ (r : Result PlainRow Refusal). is_ok r) row_made
+  module _ (operands steps : List PolStep) (are : operands ≡ bound_operands lists deletions) (added : AddsRows operands steps) where
+    adds : AddsRows (bound_operands lists deletions) steps
+    adds = subst (λ (s : List PolStep). AddsRows s steps) are added
 
-  module _ (made : Derived) (taken : Takes (Pol steps) old made) where
-    pub made_is : made ≡ with_bound_row lists deletions old
-    made_is = taken_row steps old made (bound_row lists deletions) row_made taken ∙ ap (λ (s : List PolStep). with_new_row (bound_row lists deletions) (line_text (Pol s)) old) are
+    pub line_writable : IsWritable (Pol steps)
+    line_writable = up.writable steps adds
 
-    pub stops_early : (new : Derived) → new ≡ made → StopsEarly lists deletions old new
-    stops_early new e = inr (e ∙ made_is)
+    row_made : pol_row (pair_count old.lists) old.state.live steps ≡ Ok (bound_row lists deletions)
+    row_made = ap (λ (l : Lists). pol_row (pair_count l) old.state.live steps) same ∙ up.row steps adds
 
-    module _ (id : RowNo) (new : Derived) (number : id.0 ≡ old.state.next) (noted : new ≡ with_note (BoundRow id) made) where
-      id_is : id ≡ row_no old.state.next
-      id_is = ap row_no number
+    pub line_makes : IsOk (pol_row (pair_count old.lists) old.state.live steps)
+    line_makes = ap (λ (r : Result PlainRow Refusal). is_ok r) row_made
 
-      new_is : new ≡ with_bound lists deletions old
-      new_is = noted ∙ ap₂ (λ (r : RowNo) (d : Derived). with_note (BoundRow r) d) id_is made_is
+    module _ (made : Derived) (taken : Takes (Pol steps) old made) where
+      made_is : made ≡ with_bound_row lists deletions steps old
+      made_is = taken_row steps old made (bound_row lists deletions) row_made taken
 
-      pub derives : DerivesBound lists deletions (Some id) old new
-      derives = (some, id_is, new_is)
+      pub stops_early : (new : Derived) → new ≡ made → StopsEarly lists deletions old new
+      stops_early new e = inr (record { steps = steps; adds = adds; is = e ∙ made_is })
 
-      pub row_there : row_of id.0 new.state.live ≡ Some (bound_row lists deletions)
-      row_there = ap₂ (λ (n : ℕ) (d : Derived). row_of n d.state.live) number new_is ∙ row_last old.state.next (bound_row lists deletions) old.state.live order
+      module _ (id : RowNo) (new : Derived) (number : id.0 ≡ old.state.next) (noted : new ≡ with_note (BoundRow id) made) where
+        new_is : new ≡ with_bound lists deletions steps old
+        new_is = noted ∙ ap₂ (λ (n : ℕ) (d : Derived). with_note (BoundRow (row_no n)) d) number made_is
 
-      pub ready_again : IsReady new
-      ready_again =
-          let now : Derived = with_bound_row lists deletions old in
-          let found : row_of old.state.next now.state.live ≡ Some (bound_row lists deletions) = row_last old.state.next (bound_row lists deletions) old.state.live order in
-          subst IsReady (sym new_is)
-          (ready_note (BoundRow (row_no old.state.next)) now (row_numbered old.state.next (bound_row lists deletions) now.state.live found) (ready_row (bound_row lists deletions) (line_text (Pol (bound_steps lists deletions))) old ready))
+        pub has_bound : DerivesBound lists deletions (Some id) old new
+        has_bound = record { some = some; number = ap row_no number; steps = steps; adds = adds; is = new_is }
+
+        pub row_there : row_of id.0 new.state.live ≡ Some (bound_row lists deletions)
+        row_there = ap₂ (λ (n : ℕ) (d : Derived). row_of n d.state.live) number new_is ∙ row_last old.state.next (bound_row lists deletions) old.state.live order
+
+        pub ready_again : IsReady new
+        ready_again =
+            let now : Derived = with_bound_row lists deletions steps old in
+            let found : row_of old.state.next now.state.live ≡ Some (bound_row lists deletions) = row_last old.state.next (bound_row lists deletions) old.state.live order in
+            subst IsReady (sym new_is)
+            (ready_note (BoundRow (row_no old.state.next)) now (row_numbered old.state.next (bound_row lists deletions) now.state.live found) (ready_row (bound_row lists deletions) (line_text (Pol steps)) old ready))

@@ -7,6 +7,7 @@ pub mod Parts
 pub mod BoundLine
 pub mod CeilingBound
 pub mod Counted
-pub mod Added
 pub mod Pushed
 pub mod BoundDerived
+pub mod PutSums
+mod Worked

@@ -1,9 +1,11 @@
 -- What the steps that add rows leave on the stack.
-use Rattle.std.proofs.Common.{◌≡◌, ℕ, ◌+◌, ◌*◌, ◌≤◌, ◌^◌, Bool, true, List, [], ◌∷◌, ◌++◌, if◌then◌else◌, length, sum_by, refl, sym, ap, ◌∙◌, subst, arith, append_assoc}
+use Rattle.std.proofs.Common.{◌≡◌, ℕ, ◌+◌, ◌*◌, ◌≤◌, ◌^◌, ◌<◌, Bool, true, ◌&&◌, List, [], ◌∷◌, ◌++◌, if◌then◌else◌, length, sum_by, refl, sym, ap, ◌∙◌, subst, arith, append_assoc}
 use Rattle.std.specs.Prelude.{flat_map, Result, Ok, Err}
 use Rattle.std.specs.List.{list_all}
-use Rattle.std.proofs.lemmas.Bool.{and_from}
+use Rattle.std.proofs.lemmas.Bool.{and_from, and_parts}
 use Rattle.std.proofs.lemmas.List.{append-nil, length-append}
+use Rattle.std.proofs.lemmas.List.Concat.{flat_map-append}
+use Rattle.std.proofs.lemmas.List.Folds.{list_all-append}
 use Rattle.std.proofs.lemmas.List.Sums.{sum_by-cons}
 use Rattle.pb_rows.specs.Terms.{PlainRow}
 use Rattle.pb_rows.specs.Rows.{Fits, add}
@@ -13,11 +15,11 @@ use Rattle.row_text.proofs.RowWords.{spaced_append}
 use Rattle.proof_lines.specs.declared.line.PolStep.{PolStep}
 use Rattle.proof_lines.specs.declared.line.PolStep.TheVariants.{Add}
 use Rattle.proof_lines.specs.Spelling.{is_small_step}
-use Rattle.proof_lines.specs.Texts.{is_made_step, step_words}
+use Rattle.proof_lines.specs.Texts.{is_made_step, is_some_of, step_words}
 use Rattle.proof_rules.specs.Refusals.{Refusal, TooBig, and_then}
-use Rattle.proof_rules.specs.Pol.{fits, run_step, run_steps}
+use Rattle.proof_rules.specs.Pol.{run_step, run_steps}
 use Rattle.proof_rules.proofs.Fits.{fits_true}
-use Rattle.capacity_bound.specs.Steps.{added, added_on}
+use Rattle.capacity_bound.specs.Steps.{Sum, Row, Both, operands_of, steps_of}
 use Rattle.capacity_bound.proofs.Covers.{Covers, covers_add, covers_normal}
 
 -- A step that names a row of opposites of the variables of these pairs, one or more: whatever stands on the stack, the row
@@ -78,66 +80,125 @@ module _ (vars : ℕ) (live : List NumberedRow) where
   amounts_within [] ps d a = omega (arith, a.1)
   amounts_within (step ∷ steps) ps d a = omega (arith, amounts_within steps a.behind a.after a.others, a.first.within, a.degree_is, ap length a.pairs_are, length-append a.front a.behind)
 
+  -- operands in two parts
+  record Halves (xs ys : List PolStep) (ps : List ℕ) (d : ℕ) : Type 0 where
+    pub front : List ℕ
+    pub behind : List ℕ
+    pub here : ℕ
+    pub after : ℕ
+    pub first : Amounts vars live xs front here
+    pub second : Amounts vars live ys behind after
+    pub pairs_are : ps ≡ front ++ behind
+    pub degree_is : d ≡ here + after
+
+  halves : (xs ys : List PolStep) (ps : List ℕ) (d : ℕ) → Amounts vars live (xs ++ ys) ps d → Halves xs ys ps d
+  halves [] ys ps d a = record { front = []; behind = ps; here = 0; after = d; first = (refl, refl); second = a; pairs_are = refl; degree_is = omega arith }
+  halves (x ∷ xs) ys ps d a =
+      let rest = halves xs ys a.behind a.after a.others in
+      record {
+        front = a.front ++ rest.front;
+        behind = rest.behind;
+        here = a.here + rest.here;
+        after = rest.after;
+        first = record { front = a.front; behind = rest.front; here = a.here; after = rest.here; first = a.first; others = rest.first; pairs_are = refl; degree_is = refl };
+        second = rest.second;
+        pairs_are = a.pairs_are ∙ ap (λ (rs : List ℕ). a.front ++ rs) rest.pairs_are ∙ sym (append_assoc a.front rest.front rest.behind);
+        degree_is = omega (arith, a.degree_is, rest.degree_is);
+      }
+
   -- ---- the stack
 
-  step_added : (step : PolStep) (row sum : PlainRow) (more : List PolStep) → ((stack : List PlainRow) → run_step vars live step stack ≡ Ok (row ∷ stack)) → fits (add sum row) ≡ true →
-      run_steps vars live (step ∷ Add ∷ more) (sum ∷ []) ≡ run_steps vars live more (add sum row ∷ [])
-  step_added step row sum more pushes small =
-      ap (λ (r : Result (List PlainRow) Refusal). and_then r (λ next. run_steps vars live (Add ∷ more) next)) (pushes (sum ∷ []))
-      ∙ ap (λ (b : Bool). and_then (if b then Ok (add sum row ∷ []) else Err TooBig) (λ next. run_steps vars live more next)) small
+  run_append : (xs ys : List PolStep) (stack : List PlainRow) → run_steps vars live (xs ++ ys) stack ≡ and_then (run_steps vars live xs stack) (λ next. run_steps vars live ys next)
+  run_append [] ys stack = refl
+  run_append (x ∷ xs) ys stack = onward (run_step vars live x stack) (run_append xs ys)
+    where
+      onward : (r : Result (List PlainRow) Refusal) → ((next : List PlainRow) → run_steps vars live (xs ++ ys) next ≡ and_then (run_steps vars live xs next) (λ last. run_steps vars live ys last)) →
+          and_then r (λ next. run_steps vars live (xs ++ ys) next) ≡ and_then (and_then r (λ next. run_steps vars live xs next)) (λ last. run_steps vars live ys last)
+      onward (Ok next) h = h next
+      onward (Err why) h = refl
 
-  -- one row after another is added to a row
-  pub run_on : (steps : List PolStep) (ps : List ℕ) (d : ℕ) → Amounts vars live steps ps d → (sum : PlainRow) (qs : List ℕ) (e : ℕ) → Covers sum qs e → length qs + length ps ≤ 2 ^ 120 → e ≤ length qs →
-      (row : PlainRow) × (run_steps vars live (flat_map added_on steps) (sum ∷ []) ≡ Ok (row ∷ [])) × Covers row (qs ++ ps) (e + d)
-  run_on [] ps d a sum qs e c h k =
-      (sum, refl, subst (λ (n : ℕ). Covers sum (qs ++ ps) n) (omega (arith, a.1)) (subst (λ (rs : List ℕ). Covers sum rs e) (sym (append-nil qs) ∙ ap (λ (rs : List ℕ). qs ++ rs) (sym a.0)) c))
-  run_on (step ∷ steps) ps d a sum qs e c h k =
-      let whole : length ps ≡ length a.front + length a.behind = ap length a.pairs_are ∙ length-append a.front a.behind in
-      let both : length (qs ++ a.front) ≡ length qs + length a.front = length-append qs a.front in
-      let next : PlainRow = add sum a.first.row in
-      let now : Covers next (qs ++ a.front) (e + a.here) = covers_add sum a.first.row qs a.front e a.here c a.first.covers (omega arith) (omega (arith, a.first.within)) in
-      let fit : Fits next = (covers_normal next (qs ++ a.front) (e + a.here) now (omega arith) (omega (arith, a.first.within))).fits in
-      let rest = run_on steps a.behind a.after a.others next (qs ++ a.front) (e + a.here) now (omega arith) (omega (arith, a.first.within)) in (
-        rest.0,
-        step_added step a.first.row sum (flat_map added_on steps) a.first.pushes (fits_true next fit) ∙ rest.1,
-        subst (λ (n : ℕ). Covers rest.0 (qs ++ ps) n) (omega (arith, a.degree_is))
-            (subst (λ (rs : List ℕ). Covers rest.0 rs (e + a.here + a.after)) (append_assoc qs a.front a.behind ∙ ap (λ (rs : List ℕ). qs ++ rs) (sym a.pairs_are)) rest.2),
-      )
+  -- the steps of a sum put one row on the stack
+  pub record MakesRow (sum : Sum) (ps : List ℕ) (d : ℕ) : Type 0 where
+    pub row : PlainRow
+    pub runs : (stack : List PlainRow) → run_steps vars live (steps_of sum) stack ≡ Ok (row ∷ stack)
+    pub covers : Covers row ps d
 
-  pub run_sum : (step : PolStep) (steps : List PolStep) (ps : List ℕ) (d : ℕ) → Amounts vars live (step ∷ steps) ps d → length ps ≤ 2 ^ 120 →
-      (row : PlainRow) × (run_steps vars live (added (step ∷ steps)) [] ≡ Ok (row ∷ [])) × Covers row ps d
-  run_sum step steps ps d a h =
-      let whole : length ps ≡ length a.front + length a.behind = ap length a.pairs_are ∙ length-append a.front a.behind in
-      let rest = run_on steps a.behind a.after a.others a.first.row a.front a.here a.first.covers (omega arith) a.first.within in (
-        rest.0,
-        ap (λ (r : Result (List PlainRow) Refusal). and_then r (λ next. run_steps vars live (flat_map added_on steps) next)) (a.first.pushes []) ∙ rest.1,
-        subst (λ (n : ℕ). Covers rest.0 ps n) (sym a.degree_is) (subst (λ (rs : List ℕ). Covers rest.0 rs (a.here + a.after)) (sym a.pairs_are) rest.2),
-      )
+  pub makes_row : (sum : Sum) (ps : List ℕ) (d : ℕ) → Amounts vars live (operands_of sum) ps d → length ps ≤ 2 ^ 120 → MakesRow sum ps d
+  makes_row (Row operand) ps d a h = record {
+    row = a.first.row;
+    runs = λ stack. ap (λ (r : Result (List PlainRow) Refusal). and_then r (λ next. run_steps vars live [] next)) (a.first.pushes stack);
+    covers = subst (λ (n : ℕ). Covers a.first.row ps n) (omega (arith, a.degree_is, a.others.1))
+        (subst (λ (rs : List ℕ). Covers a.first.row rs a.here) (sym (a.pairs_are ∙ ap (λ (rs : List ℕ). a.front ++ rs) a.others.0 ∙ append-nil a.front)) a.first.covers);
+  }
+  makes_row (Both one two) ps d a h =
+      let parts = halves (operands_of one) (operands_of two) ps d a in
+      let whole : length ps ≡ length parts.front + length parts.behind = ap length parts.pairs_are ∙ length-append parts.front parts.behind in
+      let first = makes_row one parts.front parts.here parts.first (omega arith) in
+      let second = makes_row two parts.behind parts.after parts.second (omega arith) in
+      let most_here : parts.here ≤ length parts.front = amounts_within (operands_of one) parts.front parts.here parts.first in
+      let most_after : parts.after ≤ length parts.behind = amounts_within (operands_of two) parts.behind parts.after parts.second in
+      let row : PlainRow = add first.row second.row in
+      let covers : Covers row (parts.front ++ parts.behind) (parts.here + parts.after) = covers_add first.row second.row parts.front parts.behind parts.here parts.after first.covers second.covers (omega arith) (omega arith) in
+      let both : length (parts.front ++ parts.behind) ≡ length parts.front + length parts.behind = length-append parts.front parts.behind in
+      let fit : Fits row = (covers_normal row (parts.front ++ parts.behind) (parts.here + parts.after) covers (omega arith) (omega arith)).fits in
+      record {
+        row = row;
+        runs = λ stack.
+            run_append (steps_of one) (steps_of two ++ Add ∷ []) stack
+            ∙ ap (λ (r : Result (List PlainRow) Refusal). and_then r (λ next. run_steps vars live (steps_of two ++ Add ∷ []) next)) (first.runs stack)
+            ∙ run_append (steps_of two) (Add ∷ []) (first.row ∷ stack)
+            ∙ ap (λ (r : Result (List PlainRow) Refusal). and_then r (λ next. run_steps vars live (Add ∷ []) next)) (second.runs (first.row ∷ stack))
+            ∙ ap (λ (b : Bool). and_then (if b then Ok (row ∷ stack) else Err TooBig) (λ next. run_steps vars live [] next)) (fits_true row fit);
+        covers = subst (λ (n : ℕ). Covers row ps n) (omega (arith, parts.degree_is)) (subst (λ (rs : List ℕ). Covers row rs (parts.here + parts.after)) (sym parts.pairs_are) covers);
+      }
 
   -- ---- the line
 
-  each_small : (steps : List PolStep) (ps : List ℕ) (d : ℕ) → Amounts vars live steps ps d → list_all is_small_step (flat_map added_on steps) ≡ true
+  pub each_small : (steps : List PolStep) (ps : List ℕ) (d : ℕ) → Amounts vars live steps ps d → list_all is_small_step steps ≡ true
   each_small [] ps d a = refl
-  each_small (step ∷ steps) ps d a = and_from (is_small_step step) (list_all is_small_step (flat_map added_on steps)) a.first.small (each_small steps a.behind a.after a.others)
+  each_small (step ∷ steps) ps d a = and_from (is_small_step step) (list_all is_small_step steps) a.first.small (each_small steps a.behind a.after a.others)
 
-  pub added_small : (step : PolStep) (steps : List PolStep) (ps : List ℕ) (d : ℕ) → Amounts vars live (step ∷ steps) ps d → list_all is_small_step (added (step ∷ steps)) ≡ true
-  added_small step steps ps d a = and_from (is_small_step step) (list_all is_small_step (flat_map added_on steps)) a.first.small (each_small steps a.behind a.after a.others)
-
-  each_made : (steps : List PolStep) (ps : List ℕ) (d : ℕ) → Amounts vars live steps ps d → list_all is_made_step (flat_map added_on steps) ≡ true
+  pub each_made : (steps : List PolStep) (ps : List ℕ) (d : ℕ) → Amounts vars live steps ps d → list_all is_made_step steps ≡ true
   each_made [] ps d a = refl
-  each_made (step ∷ steps) ps d a = and_from (is_made_step step) (list_all is_made_step (flat_map added_on steps)) a.first.made (each_made steps a.behind a.after a.others)
+  each_made (step ∷ steps) ps d a = and_from (is_made_step step) (list_all is_made_step steps) a.first.made (each_made steps a.behind a.after a.others)
 
-  pub added_made : (step : PolStep) (steps : List PolStep) (ps : List ℕ) (d : ℕ) → Amounts vars live (step ∷ steps) ps d → list_all is_made_step (added (step ∷ steps)) ≡ true
-  added_made step steps ps d a = and_from (is_made_step step) (list_all is_made_step (flat_map added_on steps)) a.first.made (each_made steps a.behind a.after a.others)
+  words_behind : (xs ys : List PolStep) → length (spaced (flat_map step_words (xs ++ ys))) ≡ length (spaced (flat_map step_words xs)) + length (spaced (flat_map step_words ys))
+  words_behind xs ys =
+      ap (λ (ws : List (List ℕ)). length (spaced ws)) (flat_map-append step_words xs ys) ∙ ap length (spaced_append (flat_map step_words xs) (flat_map step_words ys))
+      ∙ length-append (spaced (flat_map step_words xs)) (spaced (flat_map step_words ys))
 
-  words_after : (step : PolStep) (words : List (List ℕ)) → length (spaced (step_words step)) ≤ 19 → length (spaced (step_words step ++ words)) ≤ 19 + length (spaced words)
-  words_after step words h = omega (arith, h, ap length (spaced_append (step_words step) words), length-append (spaced (step_words step)) (spaced words))
+  -- the words of a sum, each with a space before it
+  pub sum_short : (sum : Sum) (ps : List ℕ) (d : ℕ) → Amounts vars live (operands_of sum) ps d → length (spaced (flat_map step_words (steps_of sum))) + 2 ≤ 21 * length ps
+  sum_short (Row operand) ps d a =
+      omega (arith, ap (λ (ws : List (List ℕ)). length (spaced ws)) (append-nil (step_words operand)), a.first.short, a.first.some, ap length a.pairs_are, length-append a.front a.behind)
+  sum_short (Both one two) ps d a =
+      let parts = halves (operands_of one) (operands_of two) ps d a in
+      omega (
+        arith,
+        words_behind (steps_of one) (steps_of two ++ Add ∷ []),
+        words_behind (steps_of two) (Add ∷ []),
+        sum_short one parts.front parts.here parts.first,
+        sum_short two parts.behind parts.after parts.second,
+        ap length parts.pairs_are,
+        length-append parts.front parts.behind,
+      )
 
-  each_short : (steps : List PolStep) (ps : List ℕ) (d : ℕ) → Amounts vars live steps ps d → length (spaced (flat_map step_words (flat_map added_on steps))) ≤ 21 * length ps
-  each_short [] ps d a = omega arith
-  each_short (step ∷ steps) ps d a =
-      omega (arith, words_after step (flat_map step_words (Add ∷ flat_map added_on steps)) a.first.short, each_short steps a.behind a.after a.others, a.first.some, ap length a.pairs_are, length-append a.front a.behind)
+-- what holds of the operands and of an addition holds of all steps
+pub all_steps : (t : PolStep → Bool) → t Add ≡ true → (sum : Sum) → list_all t (operands_of sum) ≡ true → list_all t (steps_of sum) ≡ true
+all_steps t e (Row operand) h = h
+all_steps t e (Both one two) h =
+    let parts = and_parts (list_all t (operands_of one)) (list_all t (operands_of two)) (sym (list_all-append t (operands_of one) (operands_of two)) ∙ h) in
+    list_all-append t (steps_of one) (steps_of two ++ Add ∷ [])
+    ∙ and_from (list_all t (steps_of one)) (list_all t (steps_of two ++ Add ∷ [])) (all_steps t e one parts.0)
+    (list_all-append t (steps_of two) (Add ∷ []) ∙ and_from (list_all t (steps_of two)) (t Add && true) (all_steps t e two parts.1) (and_from (t Add) true e refl))
 
-  pub added_short : (step : PolStep) (steps : List PolStep) (ps : List ℕ) (d : ℕ) → Amounts vars live (step ∷ steps) ps d → length (spaced (flat_map step_words (added (step ∷ steps)))) ≤ 21 * length ps
-  added_short step steps ps d a =
-      omega (arith, words_after step (flat_map step_words (flat_map added_on steps)) a.first.short, each_short steps a.behind a.after a.others, a.first.some, ap length a.pairs_are, length-append a.front a.behind)
+some_steps : (sum : Sum) → 0 < length (steps_of sum)
+some_steps (Row operand) = omega arith
+some_steps (Both one two) = omega (arith, some_steps one, length-append (steps_of one) (steps_of two ++ Add ∷ []))
+
+some_all : (t : PolStep → Bool) (steps : List PolStep) → 0 < length steps → list_all t steps ≡ true → is_some_of t steps ≡ true
+some_all t [] h e = absurd (omega arith)
+some_all t (step ∷ steps) h e = e
+
+pub sum_made : (sum : Sum) → list_all is_made_step (operands_of sum) ≡ true → is_some_of is_made_step (steps_of sum) ≡ true
+sum_made sum h = some_all is_made_step (steps_of sum) (some_steps sum) (all_steps is_made_step refl sum h)

@@ -1,5 +1,5 @@
 -- The steps of the line that makes the bound row.
-use Rattle.std.specs.Prelude.{ℕ, true, not, nat_le, nat_lt, if◌then◌else◌, List, [], ◌∷◌, length, map, flat_map, count_by, Option, Some, None}
+use Rattle.std.specs.Prelude.{◌≡◌, ◌++◌, ℕ, true, not, nat_le, nat_lt, if◌then◌else◌, List, [], ◌∷◌, length, map, flat_map, count_by, Option, Some, None}
 use Rattle.std.specs.List.{list_any}
 use Rattle.hrt_base.specs.declared.numbered.RowNo.{RowNo}
 use Rattle.rank_tables.specs.Numbers.{below}
@@ -47,13 +47,28 @@ bound_operands lists deletions =
 
 -- ---- their sum
 
-abbrev pub added_on : PolStep → List PolStep
-added_on operand = operand ∷ Add ∷ []
+-- A row that a step names, or the sum of two sums.
+pub data Sum : Type 0 where
+  Row : PolStep → Sum
+  Both : Sum → Sum → Sum
 
--- the rows are added one after another
-abbrev pub added : List PolStep → List PolStep
-added [] = []
-added (operand ∷ operands) = operand ∷ flat_map added_on operands
+-- the steps that make a sum, and those of them that name its rows
+abbrev pub steps_of : Sum → List PolStep
+steps_of (Row operand) = operand ∷ []
+steps_of (Both first second) = steps_of first ++ (steps_of second ++ Add ∷ [])
 
-abbrev pub bound_steps : Lists → Deletions → List PolStep
-bound_steps lists deletions = added (bound_operands lists deletions)
+abbrev pub operands_of : Sum → List PolStep
+operands_of (Row operand) = operand ∷ []
+operands_of (Both first second) = operands_of first ++ operands_of second
+
+-- the steps add the rows of these operands, in their order and two at a time
+pub record AddsRows (operands steps : List PolStep) : Type 0 where
+  pub sum : Sum
+  pub operands_are : operands ≡ operands_of sum
+  pub steps_are : steps ≡ steps_of sum
+
+-- such steps are put behind others
+pub record PutsSum (operands before after : List PolStep) : Type 0 where
+  pub steps : List PolStep
+  pub adds : AddsRows operands steps
+  pub is : after ≡ before ++ steps

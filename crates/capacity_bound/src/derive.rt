@@ -2,13 +2,11 @@
 ghost use Rattle.std.specs.Prelude.{◌≡◌, ◌<◌, ◌^◌, IfOk, IfSome, IsOk, OnErr, OnOk};
 ghost use Rattle.pb_rows.specs.Formula.{row_of};
 ghost use Rattle.rank_tables.specs.Instance.{pair_count};
-ghost use Rattle.rank_tables.specs.WellFormed.{IsWellFormed};
 ghost use Rattle.proof_rules.specs.Pol.{pol_row};
 ghost use Rattle.derivation.specs.Deletions.{AreUnitRows};
 ghost use Rattle.derivation.specs.Derived.{StaysValid};
 ghost use Rattle.derivation.specs.Ready.{IsReady};
 ghost use Rattle.derivation.specs.Steps.{IsWritable, Tries};
-ghost use Rattle.capacity_bound.specs.Steps.{bound_steps};
 ghost use Rattle.capacity_bound.specs.Bound.{DerivesBound, StopsEarly, bound_row};
 
 use crate::adding::steps_adding;
@@ -19,21 +17,6 @@ use proof_lines::{Line, Note, PolStep};
 use rank_tables::Instance;
 use stability_model::Model;
 use std::alloc::Global;
-
-/// The steps of the bound row.
-fn bound_steps(
-    alloc: Global,
-    inst: &Instance,
-    model: &Model,
-    gone: &Deleted,
-) -> Result<Vec<PolStep>, NoMemory>
-    requires { model.now ≡ inst.now }
-    ensures are { IfOk result (λ steps. steps.items ≡ bound_steps inst.now gone.now) }
-    ensures well_formed { IsWellFormed inst.now }
-{
-    let operands = bound_operands(alloc, inst, model, gone)?;
-    steps_adding(alloc, &operands)
-}
 
 /// Makes the row that the steps leave.
 fn make_row(
@@ -81,8 +64,10 @@ pub fn derive_bound(
     if inst.pairs() == 0 {
         return Ok(None);
     }
+    // What it says of the numbers of live rows: they are in order, so each has a spelling.
     let _next = deriv.next();
-    let steps = bound_steps(alloc, inst, model, gone)?;
+    let operands = bound_operands(alloc, inst, model, gone)?;
+    let steps = steps_adding(alloc, &operands)?;
     let id = make_row(deriv, alloc, model, &steps)?;
     deriv.note(alloc, model, &Note::Bound(id))?;
     Ok(Some(id))

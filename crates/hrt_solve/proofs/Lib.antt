@@ -1,2 +1,9 @@
 mod Judging
 mod SmallClaims
+mod Sending
+mod Gauging
+mod Claiming
+mod Points
+mod LoggedMatching
+mod ClosingLine
+mod QuickEnd

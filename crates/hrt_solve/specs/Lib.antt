@@ -1,1 +1,4 @@
 pub mod Judged
+pub mod Gauged
+pub mod Logged
+pub mod Writing

@@ -10,6 +10,8 @@ mod definition;
 #[cfg(test)]
 mod faults;
 #[cfg(test)]
+mod jobs;
+#[cfg(test)]
 mod limits;
 #[cfg(test)]
 mod models;
@@ -17,6 +19,8 @@ mod models;
 mod points;
 #[cfg(test)]
 mod promotions;
+#[cfg(test)]
+mod reductions;
 #[cfg(test)]
 mod runs;
 #[cfg(test)]

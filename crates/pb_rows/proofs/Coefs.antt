@@ -1,8 +1,9 @@
 -- A row by its coefficients: the terms of the variables below a number, each with its net coefficient.
-use Rattle.std.proofs.Common.{◌≡◌, ℕ, zero, suc, ◌+◌, ◌*◌, ◌<◌, ◌≤◌, Bool, true, false, ◌==◌, List, [], ◌∷◌, ◌++◌, if◌then◌else◌, ℤ, pos, negsuc, ◌+ℤ◌, ◌-ℤ◌, neg_ℤ, refl, sym, ap, ap₂, ◌∙◌, inl, inr, arith, append_assoc}
+use Rattle.std.proofs.Common.{Contains, subst, ◌≡◌, ℕ, zero, suc, ◌+◌, ◌*◌, ◌<◌, ◌≤◌, Bool, true, false, ◌==◌, List, [], ◌∷◌, ◌++◌, if◌then◌else◌, ℤ, pos, negsuc, ◌+ℤ◌, ◌-ℤ◌, neg_ℤ, refl, sym, ap, ap₂, ◌∙◌, inl, inr, arith, append_assoc}
 use Rattle.std.proofs.lemmas.Int.{ints}
 use Rattle.std.proofs.lemmas.Bool.{cases_eq, cases_lt, eq-eqb, ne_eqb}
 use Rattle.std.proofs.lemmas.List.{append-nil}
+use Rattle.std.proofs.lemmas.List.Elements.{Contains-append_left, Contains-append_right}
 use Rattle.hrt_base.specs.declared.literal.Lit.{Lit}
 use Rattle.hrt_base.specs.declared.literal.Term.{Term}
 use Rattle.pb_rows.specs.Terms.{PlainRow, is_over, weighing}
@@ -206,3 +207,47 @@ term_share set v (negsuc a) = omega arith
 pub nonfalse-coefs : (set : Literals) (n : ℕ) (s : ℕ → ℤ) → nonfalse_sum set (coef_terms n s) ≡ sum_below n (λ v. open_share set v (s v))
 nonfalse-coefs set zero s = refl
 nonfalse-coefs set (suc n) s = nonfalse-append set (coef_terms n s) (net_term n (s n)) ∙ ap₂ ◌+◌ (nonfalse-coefs set n s) (term_share set n (s n))
+
+-- a variable's term
+pub term_in : (n : ℕ) (s : ℕ → ℤ) (v a : ℕ) (neg : Bool) → v < n → Contains (net_term v (s v)) (weighing (suc a) (lit neg v)) → Contains (coef_terms n s) (weighing (suc a) (lit neg v))
+term_in zero s v a neg h c = absurd (omega arith)
+term_in (suc n) s v a neg h c = elim (cases_eq n v) [
+  | inl e ↦ Contains-append_right (coef_terms n s) (net_term n (s n)) (weighing (suc a) (lit neg v))
+      (subst (λ (k : ℕ). Contains (net_term k (s k)) (weighing (suc a) (lit neg v))) (sym e) c)
+  | inr e ↦ Contains-append_left (coef_terms n s) (net_term n (s n)) (weighing (suc a) (lit neg v)) (term_in n s v a neg (omega arith) c)
+]
+
+-- ---- sums that differ
+
+pub sum_below-le : (n : ℕ) (f g : ℕ → ℕ) → ((v : ℕ) → v < n → f v ≤ g v) → sum_below n f ≤ sum_below n g
+sum_below-le zero f g h = omega arith
+sum_below-le (suc n) f g h = let r = sum_below-le n f g (λ v l. h v (omega arith)) in omega (arith, h n (omega arith))
+
+pub sum_below-add : (n : ℕ) (f g : ℕ → ℕ) → sum_below n (λ v. f v + g v) ≡ sum_below n f + sum_below n g
+sum_below-add zero f g = refl
+sum_below-add (suc n) f g = let r = sum_below-add n f g in omega arith
+
+at_one : (b : Bool) (z k : ℕ) → z ≡ 0 → b ≡ true → z + (if b then k else 0) ≡ k
+at_one true z k e f = omega arith
+at_one false z k e f = absurd (cc)
+
+at_none : (b : Bool) (z k w : ℕ) → z ≡ w → b ≡ false → z + (if b then k else 0) ≡ w
+at_none true z k w e f = absurd (cc)
+at_none false z k w e f = omega arith
+
+one_past : (n w k : ℕ) → n ≤ w → sum_below n (λ v. if v == w then k else 0) ≡ 0
+one_past zero w k h = refl
+one_past (suc n) w k h = at_none (n == w) (sum_below n (λ v. if v == w then k else 0)) k 0 (one_past n w k (omega arith)) (ne_eqb n w (λ e. omega arith))
+
+-- a sum with one part
+pub sum_below-one : (n w k : ℕ) → w < n → sum_below n (λ v. if v == w then k else 0) ≡ k
+sum_below-one zero w k h = absurd (omega arith)
+sum_below-one (suc n) w k h = elim (cases_eq n w) [
+  | inl e ↦ at_one (n == w) (sum_below n (λ v. if v == w then k else 0)) k (one_past n w k (omega arith)) (eq-eqb n w e)
+  | inr e ↦ at_none (n == w) (sum_below n (λ v. if v == w then k else 0)) k k (sum_below-one n w k (omega arith)) (ne_eqb n w e)
+]
+
+-- where one part is smaller by k, the sum is
+pub sum_below-less : (n w k : ℕ) (f g : ℕ → ℕ) → w < n → ((v : ℕ) → v < n → f v + (if v == w then k else 0) ≤ g v) → sum_below n f + k ≤ sum_below n g
+sum_below-less n w k f g l h =
+    omega (arith, sum_below-le n (λ v. f v + (if v == w then k else 0)) g h, sum_below-add n f (λ v. if v == w then k else 0), sum_below-one n w k l)

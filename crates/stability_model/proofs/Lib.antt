@@ -3,7 +3,7 @@ pub mod PairRow
 pub mod ModelExact
 pub mod Optimum
 mod Pushes
-mod Growing
+pub mod Growing
 pub mod Places
 pub mod TermCount
 mod PairTerms

@@ -1,0 +1,120 @@
+-- What is claimed of the bound can be written, and is shown.
+use Rattle.std.proofs.Common.{◌≡◌, ℕ, zero, suc, ◌+◌, ◌<◌, ◌≤◌, ◌^◌, ◌==◌, true, List, [], ◌∷◌, ◌++◌, length, length-append, ℤ, pos, negsuc, neg_ℤ, refl, sym, ap, ◌∙◌, subst, inl, inr, arith, add-one}
+use Rattle.std.specs.Prelude.{Option, Some, None, Contains, ◌⊎◌, ◌-ℤ◌, ◌+ℤ◌, map, nat_abs, nat_le}
+use Rattle.std.specs.Fmt.{signed_decimal}
+use Rattle.std.proofs.lemmas.Bool.{cases_Bool, le-leb}
+use Rattle.std.proofs.lemmas.Fmt.{length_signed_le}
+use Rattle.std.proofs.lemmas.Int.{ints}
+use Rattle.hrt_base.specs.declared.numbered.RowNo.{RowNo}
+use Rattle.pb_rows.specs.Terms.{PlainRow}
+use Rattle.pb_rows.specs.Normal.{normal_form, or_zero}
+use Rattle.pb_rows.specs.Closure.{Implies}
+use Rattle.pb_rows.specs.Formula.{NumberedRow, row_of, rows_of}
+use Rattle.rank_tables.specs.Numbers.{numbers_to}
+use Rattle.rank_tables.specs.Instance.{Lists, pair_count}
+use Rattle.stability_model.specs.Model.{formula, term}
+use Rattle.proof_lines.specs.declared.line.Line.TheVariants.{Conclusion}
+use Rattle.proof_lines.specs.declared.line.Claim.{Claim}
+use Rattle.proof_rules.specs.States.{live_rows}
+use Rattle.proof_rules.specs.Claims.{HasStronger, IsReached, IsUnpassed, Shows, at_least_row}
+use Rattle.proof_rules.specs.Texts.{IsValidText}
+use Rattle.proof_rules.specs.Told.{held_by}
+use Rattle.proof_rules.specs.Held.{Held}
+use Rattle.proof_rules.proofs.FarBounds.{free-follows}
+use Rattle.derivation.specs.Derived.{Derived, IsConcludedValid, StandsFor, StaysValid}
+use Rattle.derivation.specs.Steps.{IsWritable, concluded}
+use Rattle.hrt_solve.specs.Gauged.{HasBoundRow, IsGauged, bound_claim, found_claim, value_of}
+use Rattle.hrt_solve.specs.Writing.{IsProof}
+
+-- ---- it can be written
+
+number_short : (n : ℕ) → n < 2 ^ 32 → length (signed_decimal (value_of n)) ≤ 13
+number_short zero h = length_signed_le 12 (pos 0) (omega arith) (omega arith)
+number_short (suc n) h = length_signed_le 12 (negsuc n) (omega arith) (omega arith)
+
+number_small : (n : ℕ) → n < 2 ^ 32 → nat_le (nat_abs (value_of n)) (2 ^ 120) ≡ true
+number_small zero h = refl
+number_small (suc n) h = le-leb (suc n) (2 ^ 120) (omega arith)
+
+bound_writable : (n : ℕ) → n < 2 ^ 32 → IsWritable (Conclusion (bound_claim n))
+bound_writable n h = record {
+  made = refl;
+  small = rw (number_small n h) refl;
+  short = omega (arith, number_short n h, length-append (signed_decimal (value_of n) ++ 32 ∷ 73 ∷ 78 ∷ 70 ∷ []) (10 ∷ []), length-append (signed_decimal (value_of n)) (32 ∷ 73 ∷ 78 ∷ 70 ∷ []));
+}
+
+found_writable : (n size : ℕ) → n < 2 ^ 32 → size < 2 ^ 32 → IsWritable (Conclusion (found_claim n size))
+found_writable n size h k = record {
+  made = refl;
+  small = rw (number_small n h, number_small size k) refl;
+  short =
+      let second : List ℕ = signed_decimal (value_of size) ++ [] in
+      omega (arith, number_short n h, number_short size k, length-append (signed_decimal (value_of n) ++ 32 ∷ second) (10 ∷ []), length-append (signed_decimal (value_of n)) (32 ∷ second), length-append (signed_decimal (value_of size)) []);
+}
+
+pub bound_claim_writable : (n : ℕ) (claim : Claim) → n < 2 ^ 32 → claim ≡ bound_claim n → IsWritable (Conclusion claim)
+bound_claim_writable n claim h is = subst (λ (c : Claim). IsWritable (Conclusion c)) (sym is) (bound_writable n h)
+
+pub found_claim_writable : (n size : ℕ) (claim : Claim) → n < 2 ^ 32 → size < 2 ^ 32 → claim ≡ found_claim n size → IsWritable (Conclusion claim)
+found_claim_writable n size claim h k is = subst (λ (c : Claim). IsWritable (Conclusion c)) (sym is) (found_writable n size h k)
+
+-- ---- it is shown
+
+row_contained : (entries : List NumberedRow) (n : ℕ) (r : PlainRow) → row_of n entries ≡ Some r → Contains (rows_of entries) r
+row_contained [] n r h = absurd (cc)
+row_contained (e ∷ es) n r h = elim (cases_Bool (e.number == n)) [
+  | inl is ↦ let f : Some e.row ≡ Some r = rw is at h in (0, omega arith, cc)
+  | inr not ↦ let c = row_contained es n r (rw not at h) in (c.0 + 1, omega arith, rw add-one c.2)
+]
+
+none_below : (n : ℕ) → or_zero (value_of n) ≡ 0
+none_below zero = refl
+none_below (suc n) = refl
+
+no_terms : (n : ℕ) → (normal_form [] (value_of n)).degree ≡ 0
+no_terms n = let same : (value_of n -ℤ pos 0) +ℤ pos 0 ≡ value_of n = omega (arith, ints) in ap or_zero same ∙ none_below n
+
+-- without pairs the objective is 0
+nothing_asked : (lists : Lists) (n : ℕ) → pair_count lists ≡ 0 → (at_least_row (formula lists) (value_of n)).degree ≡ 0
+nothing_asked lists n e = ap (λ (k : ℕ). (normal_form (map (λ p. term (neg_ℤ (pos 1)) p) (numbers_to k)) (value_of n)).degree) e ∙ no_terms n
+
+row_shown : (lists : Lists) (n : ℕ) (id : Option RowNo) (d : Derived) → HasBoundRow lists n id d →
+    Implies (live_rows d.state) (at_least_row (formula lists) (value_of n)) ⊎ HasStronger d.state (at_least_row (formula lists) (value_of n))
+row_shown lists n None d has = inl (free-follows (live_rows d.state) (at_least_row (formula lists) (value_of n)) (nothing_asked lists n has))
+row_shown lists n (Some id) d has =
+    let row : PlainRow = at_least_row (formula lists) (value_of n) in
+    inr (row, row_contained d.state.live id.0 row has, refl, omega arith)
+
+unlogged : (least : Option ℤ) (l : ℤ) → least ≡ None → IsUnpassed least l
+unlogged None l e = tt
+unlogged (Some v) l e = absurd (cc)
+
+pub bound_claim_shown : (lists : Lists) (n : ℕ) (claim : Claim) (id : Option RowNo) (d : Derived) → claim ≡ bound_claim n → IsGauged lists n id d → d.state.least ≡ None → Shows (formula d.lists) d.state claim
+bound_claim_shown lists n claim id d is gauged least =
+    subst (λ (c : Claim). Shows (formula d.lists) d.state c) (sym is)
+    (subst (λ (l : Lists). Shows (formula l) d.state (bound_claim n)) (sym gauged.lists_are) ((unlogged d.state.least (value_of n) least, row_shown lists n id d gauged.bound), tt))
+
+unpassed : (least : Option ℤ) (n size : ℕ) → least ≡ Some (value_of size) → size ≤ n → IsUnpassed least (value_of n)
+unpassed least n size e h = subst (λ (o : Option ℤ). IsUnpassed o (value_of n)) (sym e) (omega (arith, ints))
+
+reached : (least : Option ℤ) (size : ℕ) → least ≡ Some (value_of size) → IsReached least (value_of size)
+reached least size e = subst (λ (o : Option ℤ). IsReached o (value_of size)) (sym e) (omega (arith, ints))
+
+pub found_claim_shown : (lists : Lists) (n size : ℕ) (claim : Claim) (id : Option RowNo) (d : Derived) → claim ≡ found_claim n size → IsGauged lists n id d → d.state.least ≡ Some (value_of size) → size ≤ n →
+    Shows (formula d.lists) d.state claim
+found_claim_shown lists n size claim id d is gauged least h =
+    subst (λ (c : Claim). Shows (formula d.lists) d.state c) (sym is)
+    (subst (λ (l : Lists). Shows (formula l) d.state (found_claim n size)) (sym gauged.lists_are)
+    ((unpassed d.state.least n size least h, row_shown lists n id d gauged.bound), reached d.state.least size least))
+
+-- ---- the whole text
+
+pub proof_made : (lists : Lists) (n : ℕ) (id : Option RowNo) (claim said : Claim) (first old new : Derived) → said ≡ claim → IsGauged lists n id old → StandsFor [] first → StaysValid first old → new ≡ concluded said old → StaysValid old new →
+    IsConcludedValid old new said → IsProof lists new.pending claim 0
+proof_made lists n id claim said first old new is gauged stands before end after valid = record {
+  valid = subst (λ (c : Claim). IsValidText (formula lists) new.pending c) is (subst (λ (l : Lists). IsValidText (formula l) new.pending said) gauged.lists_are (valid [] (before [] stands)));
+  learned_are =
+      ap (λ (l : Lists). (held_by l new.pending).learn_notes) (sym (ap (λ (d : Derived). d.lists) end ∙ gauged.lists_are))
+      ∙ ap (λ (h : Held). h.learn_notes) (after [] (before [] stands)).tells.held_is
+      ∙ ap (λ (d : Derived). d.held.learn_notes) end ∙ gauged.unlearned;
+}

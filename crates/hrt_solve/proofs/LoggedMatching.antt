@@ -1,0 +1,99 @@
+-- What logging a matching leaves.
+use Rattle.std.proofs.Common.{◌≡◌, ℕ, ◌+◌, ◌==◌, ◌&&◌, ◌||◌, Bool, true, false, not, if◌then◌else◌, List, [], ◌∷◌, ◌++◌, length, map, ℤ, refl, sym, ap, ap₂, ◌∙◌, inl, inr}
+use Rattle.std.specs.Prelude.{Option, Some, None, Result, Ok, Err}
+use Rattle.std.specs.List.{list_any}
+use Rattle.std.proofs.lemmas.Bool.{cases_eq, eq-eqb, ne_eqb}
+use Rattle.hrt_base.specs.declared.literal.Lit.{Lit}
+use Rattle.hrt_base.specs.declared.numbered.RowNo.{RowNo}
+use Rattle.pb_rows.specs.Terms.{PlainRow}
+use Rattle.pb_rows.specs.Points.{Point, value_at}
+use Rattle.pb_rows.specs.Formula.{Formula, row_of}
+use Rattle.rank_tables.specs.Numbers.{is_in, numbers_to}
+use Rattle.rank_tables.specs.Instance.{Lists, pair_count}
+use Rattle.stability_model.specs.Model.{formula, objective}
+use Rattle.stability_model.proofs.ModelExact.{ObjectiveExact}
+use Rattle.proof_lines.specs.declared.line.Line.TheVariants.{Soli}
+use Rattle.proof_lines.specs.Texts.{line_text}
+use Rattle.proof_rules.specs.Refusals.{NotFull, Refusal}
+use Rattle.proof_rules.specs.States.{IsInOrder, State, after, if_hold, is_full, logged, named_point, smaller}
+use Rattle.proof_rules.specs.Held.{keeping}
+use Rattle.proof_rules.proofs.Made.{made_hold, made_if, made_known}
+use Rattle.derivation.specs.Derived.{Derived}
+use Rattle.derivation.specs.Steps.{Takes, literal_at, literals_at}
+use Rattle.derivation.proofs.Readiness.{row_front, row_last}
+use Rattle.hrt_solve.specs.Gauged.{HasBoundRow, IsGauged, value_of}
+use Rattle.hrt_solve.specs.Logged.{Logs, larger_row}
+use Rattle.hrt_solve.proofs.Points.{filter_alike}
+
+pub same_state : (s t : State) → ◌≡◌ {A = Result State Refusal} (Ok s) (Ok t) → s ≡ t
+same_state s t e = cc
+
+-- the literals of a point name it
+named : (p : Point) (v : ℕ) (ns : List ℕ) → list_any (λ (l : Lit). l.var == v && not l.neg) (map (literal_at p) ns) ≡ (is_in v ns && p v)
+named p v [] = refl
+named p v (w ∷ ns) = elim (cases_eq w v) [
+  | inl e ↦ rw (eq-eqb w v e, named p v ns) (here (p w) (p v) (is_in v ns) (ap p e))
+  | inr e ↦ rw (ne_eqb w v e) (named p v ns)
+]
+  where
+    here : (a b i : Bool) → a ≡ b → (not (not a) || (i && b)) ≡ b
+    here true true i e = refl
+    here true false i e = absurd (cc)
+    here false true i e = absurd (cc)
+    here false false true e = refl
+    here false false false e = refl
+
+value_named : (lists : Lists) (p : Point) → value_at (named_point (literals_at (pair_count lists) p)) (objective lists) ≡ value_at p (objective lists)
+value_named lists p =
+    let n : ℕ = pair_count lists in
+    ObjectiveExact lists (named_point (literals_at n p))
+    ∙ ap (λ (ps : List ℕ). value_of (length ps)) (filter_alike (named_point (literals_at n p)) p (numbers_to n) (λ v i. named p v (numbers_to n) ∙ ap (λ (b : Bool). b && p v) i))
+    ∙ sym (ObjectiveExact lists p)
+
+-- the line of a solution leads to the state in which its value is logged
+after_logged : (f : Formula) (s t : State) (ls : List Lit) → after f s (Soli ls) ≡ Ok t → t ≡ logged f s (value_at (named_point ls) f.objective)
+after_logged f s t ls e =
+    let made : Result State Refusal = Ok (logged f s (value_at (named_point ls) f.objective)) in
+    let known = made_known f.vars ls (if is_full f.vars ls then if_hold (named_point ls) 1 f.rows made else Err NotFull) t e in
+    let full = made_if (is_full f.vars ls) (if_hold (named_point ls) 1 f.rows made) NotFull t known in
+    sym (same_state (logged f s (value_at (named_point ls) f.objective)) t (made_hold (named_point ls) 1 f.rows made t full.1).1)
+
+pub logs : (size n : ℕ) (p : Point) (id : RowNo) (old new : Derived) → n ≡ pair_count old.lists → value_at p (objective old.lists) ≡ value_of size → id.0 ≡ old.state.next →
+    Takes (Soli (literals_at n p)) old new → Logs size id old new
+logs size n p id old new count value number taken = record {
+  number = number;
+  text = line_text (Soli (literals_at n p));
+  is = taken.is ∙ ap (λ (s : State). record old { state = s; held = keeping (old.state.next ∷ []) old.held; pending = old.pending ++ line_text (Soli (literals_at n p)) }) state_is;
+}
+  where
+    value_is : value_at (named_point (literals_at n p)) (objective old.lists) ≡ value_of size
+    value_is = ap (λ (k : ℕ). value_at (named_point (literals_at k p)) (objective old.lists)) count ∙ value_named old.lists p ∙ value
+
+    state_is : new.state ≡ logged (formula old.lists) old.state (value_of size)
+    state_is = after_logged (formula old.lists) old.state new.state (literals_at n p) taken.step.leads ∙ ap (logged (formula old.lists) old.state) value_is
+
+-- ---- what it leaves
+
+pub bound_front : (lists : Lists) (n : ℕ) (id : Option RowNo) (old new : Derived) (row : PlainRow) → new.state.live ≡ old.state.live ++ record { number = old.state.next; row = row } ∷ [] → HasBoundRow lists n id old → HasBoundRow lists n id new
+bound_front lists n None old new row is has = has
+bound_front lists n (Some id) old new row is has = ap (row_of id.0) is ∙ row_front id.0 _ old.state.live (record { number = old.state.next; row = row } ∷ []) has
+
+pub larger_live : (size : ℕ) (id : RowNo) (old new : Derived) → Logs size id old new → IsInOrder old.state → row_of id.0 new.state.live ≡ Some (larger_row new.lists size)
+larger_live size id old new logs order =
+    ap₂ (λ (k : ℕ) (d : Derived). row_of k d.state.live) logs.number logs.is ∙ row_last old.state.next (larger_row old.lists size) old.state.live order
+    ∙ ap (λ (l : Lists). Some (larger_row l size)) (sym (ap (λ (d : Derived). d.lists) logs.is))
+
+module _ (lists : Lists) (n size : ℕ) (bound : Option RowNo) (id : RowNo) (old new : Derived) (gauged : IsGauged lists n bound old) (logs : Logs size id old new) where
+  pub gauged_logged : IsGauged lists n bound new
+  gauged_logged = record {
+    lists_are = ap (λ (d : Derived). d.lists) logs.is ∙ gauged.lists_are;
+    unconcluded = ap (λ (d : Derived). d.claim) logs.is ∙ gauged.unconcluded;
+    bound = bound_front lists n bound old new (larger_row old.lists size) (ap (λ (d : Derived). d.state.live) logs.is) gauged.bound;
+    unlearned = ap (λ (d : Derived). d.held.learn_notes) logs.is ∙ gauged.unlearned;
+  }
+
+  pub least_logged : old.state.least ≡ None → new.state.least ≡ Some (value_of size)
+  least_logged none = ap (λ (d : Derived). d.state.least) logs.is ∙ ap (λ (o : Option ℤ). Some (smaller o (value_of size))) none
+
+  pub next_logged : new.state.next ≡ old.state.next + 1
+  next_logged = ap (λ (d : Derived). d.state.next) logs.is

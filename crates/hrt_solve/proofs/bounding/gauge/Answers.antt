@@ -1,0 +1,29 @@
+use Rattle.std.proofs.Common.{◌<◌, ◌^◌, ◌∙◌, ap, arith, length, subst}
+use Rattle.rank_tables.specs.Instance.{Lists, pair_count}
+use Rattle.stability_model.specs.Gone.{AreGone}
+use Rattle.stability_model.specs.Model.{rows}
+use Rattle.derivation.specs.Deletions.{is_deleted}
+use Rattle.derivation.specs.Derived.{Derived}
+use Rattle.pair_reduction.specs.Reduced.{AreInNone, MakesFew}
+use Rattle.hrt_solve.proofs.Gauging.{gauged, most, next_small, numbers_are, unlogged}
+use Rattle.hrt_solve.proofs.bounding.gauge.Goals as goal
+
+pub returns-clause-numbers : goal.returns-clause-numbers
+returns-clause-numbers c = numbers_are c.args.inst.now c.in_ok-gone.gone c.count.result c.ceiling.result (subst (λ (l : Lists). AreGone l (is_deleted c.in_ok-gone.gone)) (ap (λ (d : Derived). d.lists) c.requires.first) c.in_ok-gone.ensures.gone)
+    (c.in_ok-gone.ensures.pairs ∙ ap (λ (d : Derived). pair_count d.lists) c.requires.first) c.count.ensures c.ceiling.ensures.value
+
+pub returns-clause-most : goal.returns-clause-most
+returns-clause-most c = most c.args.inst.now c.in_ok-gone.gone c.ceiling.result c.ceiling.ensures.bounds (subst (λ (l : Lists). AreInNone l c.in_ok-gone.gone) (ap (λ (d : Derived). d.lists) c.requires.first) c.in_ok-gone.ensures.in_none)
+
+pub returns-clause-gauged : goal.returns-clause-gauged
+returns-clause-gauged c =
+    gauged c.args.inst.now c.in_ok-gone.gone c.in_ok-row.row c.args.deriv.now c.reduce.new.deriv c.derive_bound.new.deriv c.requires.first c.reduce.ensures.goes_on c.in_ok-gone.ensures.holds c.in_ok-row.ensures.bound c.ceiling.result c.ceiling.ensures.value c.in_ok-row.ensures.row
+
+pub returns-clause-least : goal.returns-clause-least
+returns-clause-least c = unlogged c.args.inst.now c.in_ok-gone.gone c.in_ok-row.row c.args.deriv.now c.reduce.new.deriv c.derive_bound.new.deriv c.requires.first c.reduce.ensures.goes_on c.in_ok-gone.ensures.holds c.in_ok-row.ensures.bound
+
+pub returns-clause-next : goal.returns-clause-next
+returns-clause-next c =
+    next_small c.args.inst.now c.in_ok-gone.gone c.in_ok-row.row c.args.deriv.now c.reduce.new.deriv c.derive_bound.new.deriv c.requires.first c.reduce.ensures.goes_on c.in_ok-gone.ensures.holds c.in_ok-row.ensures.bound
+    (subst (λ (l : Lists). MakesFew (pair_count l) c.args.deriv.now c.reduce.new.deriv) (ap (λ (d : Derived). d.lists) c.requires.first) c.reduce.ensures.few) (omega (arith, c.pairs-pairs.ensures.count, c.pairs-pairs.ensures.few))
+    (subst (λ (l : Lists). length (rows l) < 2 ^ 32) c.requires.model (omega (arith, c.row_count-rows.ensures)))

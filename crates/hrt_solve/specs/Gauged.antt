@@ -1,0 +1,52 @@
+-- What the deletion rules and the ceiling come to for an instance, and what a proof claims of it.
+use Rattle.std.specs.Prelude.{◌≡◌, ◌≤◌, ℕ, List, length, count_by, IsTrue, ℤ, pos, neg_ℤ, Option, Some, None}
+use Rattle.hrt_base.specs.declared.numbered.RowNo.{RowNo}
+use Rattle.pb_rows.specs.Formula.{row_of}
+use Rattle.rank_tables.specs.Numbers.{numbers_to}
+use Rattle.rank_tables.specs.Instance.{Lists, pair_count}
+use Rattle.rank_tables.specs.Stability.{is_weakly_stable}
+use Rattle.stability_model.specs.Model.{formula}
+use Rattle.stability_model.specs.Gone.{AreGone, Pairs, ceiling}
+use Rattle.proof_lines.specs.declared.line.Claim.{Claim}
+use Rattle.proof_lines.specs.declared.line.Claim.TheVariants.{Bounds}
+use Rattle.proof_rules.specs.Claims.{at_least_row}
+use Rattle.derivation.specs.Derived.{Derived}
+
+-- so many pairs are gone, and this is the ceiling
+pub record AreNumbersOf (lists : Lists) (deleted top : ℕ) : Type 0 where
+  pub gone : Pairs
+  pub are : AreGone lists gone
+  pub deleted_is : deleted ≡ count_by gone (numbers_to (pair_count lists))
+  pub ceiling_is : top ≡ ceiling lists gone
+
+-- no weakly stable matching has more pairs
+abbrev pub IsMost : Lists → ℕ → Type 0
+IsMost lists n = (m : List ℕ) → IsTrue (is_weakly_stable lists m) → length m ≤ n
+
+-- ---- claims
+
+-- a matching of so many pairs, as a value of the objective
+abbrev pub value_of : ℕ → ℤ
+value_of n = neg_ℤ (pos n)
+
+-- no matching has more pairs
+abbrev pub bound_claim : ℕ → Claim
+bound_claim n = Bounds (Some (value_of n)) None
+
+-- and one has so many
+abbrev pub found_claim : ℕ → ℕ → Claim
+found_claim n size = Bounds (Some (value_of n)) (Some (value_of size))
+
+-- ---- derivations
+
+-- the row that no matching has more than so many pairs is live, but where there is no pair
+abbrev pub HasBoundRow : Lists → ℕ → Option RowNo → Derived → Type 0
+HasBoundRow lists n None d = pair_count lists ≡ 0
+HasBoundRow lists n (Some id) d = row_of id.0 d.state.live ≡ Some (at_least_row (formula lists) (value_of n))
+
+-- a derivation that shows the bound, in which no row was learned and which isn't concluded
+pub record IsGauged (lists : Lists) (n : ℕ) (id : Option RowNo) (d : Derived) : Type 0 where
+  pub lists_are : d.lists ≡ lists
+  pub unconcluded : d.claim ≡ None
+  pub bound : HasBoundRow lists n id d
+  pub unlearned : d.held.learn_notes ≡ 0

@@ -1,0 +1,132 @@
+-- Rows that were made for a while are forgotten.
+use Rattle.std.proofs.Common.{◌≡◌, ℕ, zero, suc, ◌+◌, ◌-◌, ◌*◌, ◌<◌, ◌≤◌, ◌^◌, Bool, true, false, not, ◌&&◌, ◌==◌, List, [], ◌∷◌, ◌++◌, nat_le, if◌then◌else◌, length, map, cond, refl, sym, ap, ap₂, ◌∙◌, subst, inl, inr, arith}
+use Rattle.std.specs.Prelude.{Option, Some, None, Result, Ok, Err, IsOk, is_ok, codes, decimal, slice_set, slice_get}
+use Rattle.std.specs.List.{list_all}
+use Rattle.std.proofs.lemmas.Bool.{and_from, and_parts, cases_Bool, eq-eqb, eqb-true, false_from_ne_true, le-leb, not-true, or_parts, or_left, or_right, true≢false}
+use Rattle.std.proofs.lemmas.Fmt.{length-decimal-le}
+use Rattle.std.proofs.lemmas.List.{length-append}
+use Rattle.std.proofs.lemmas.Option.{slice_get-get_or}
+use Rattle.hrt_base.specs.declared.numbered.RowNo.{RowNo}
+use Rattle.pb_rows.specs.Terms.{PlainRow}
+use Rattle.pb_rows.specs.Formula.{NumberedRow, is_numbered, row_of, without}
+use Rattle.row_text.specs.Tokens.{spaced}
+use Rattle.rank_tables.specs.Numbers.{is_distinct, is_in}
+use Rattle.proof_lines.specs.declared.line.Line.TheVariants.{Del}
+use Rattle.proof_lines.specs.Spelling.{row_no}
+use Rattle.proof_lines.specs.Texts.{id_text, is_made_id, is_some_of}
+use Rattle.proof_rules.specs.Refusals.{BadId, Refusal, and_then}
+use Rattle.proof_rules.specs.Held.{row_numbers}
+use Rattle.proof_rules.specs.States.{AreNumbered, IsInOrder, State, deleted}
+use Rattle.proof_rules.proofs.HeldLive.{numbered-without}
+use Rattle.derivation.specs.Derived.{Derived}
+use Rattle.derivation.specs.Steps.{IsWritable, Takes}
+use Rattle.pair_reduction.specs.Reduced.{AreMade}
+use Rattle.pair_reduction.proofs.Offering.{numbered_row}
+use Rattle.pair_reduction.proofs.Writable.{live_within}
+
+-- ---- rows by number
+
+kept_step : (b e : Bool) (entry : NumberedRow) (one two : Option PlainRow) → (b ≡ true → e ≡ false) → one ≡ two → (if e then Some entry.row else two) ≡ (if e then Some entry.row else one)
+kept_step b e entry one two h k = ap (λ (o : Option PlainRow). if e then Some entry.row else o) (sym k)
+
+other_entry : (n k : ℕ) (b : Bool) (entry : NumberedRow) (live : List NumberedRow) → (entry.number == k) ≡ b → (k ≡ n → ⊥) → row_of n (without k live) ≡ row_of n live → row_of n (cond (not b) (entry ∷ without k live) (without k live)) ≡ row_of n (entry ∷ live)
+other_entry n k true entry live e other h =
+    let differs : (entry.number == n) ≡ false = false_from_ne_true (entry.number == n) (λ f. other (sym (eqb-true entry.number k e) ∙ eqb-true entry.number n f)) in
+    h ∙ ap (λ (b : Bool). if b then Some entry.row else row_of n live) (sym differs)
+other_entry n k false entry live e other h = ap (λ (o : Option PlainRow). if entry.number == n then Some entry.row else o) h
+
+pub row_without : (n k : ℕ) (live : List NumberedRow) → (k ≡ n → ⊥) → row_of n (without k live) ≡ row_of n live
+row_without n k [] other = refl
+row_without n k (entry ∷ live) other = other_entry n k (entry.number == k) entry live refl other (row_without n k live other)
+
+-- ---- several
+
+pub record Leaves (ids : List RowNo) (live : List NumberedRow) : Type 0 where
+  pub left : List NumberedRow
+  pub is : deleted ids live ≡ Ok left
+  pub others : (n : ℕ) → is_in n (row_numbers ids) ≡ false → row_of n left ≡ row_of n live
+
+pub leaves : (ids : List RowNo) (live : List NumberedRow) → is_distinct (row_numbers ids) ≡ true → ((n : ℕ) → is_in n (row_numbers ids) ≡ true → is_numbered n live ≡ true) → Leaves ids live
+leaves [] live d h = record { left = live; is = refl; others = λ n i. refl }
+leaves (x ∷ ids) live d h =
+    let parts = and_parts (not (is_in x.0 (row_numbers ids))) (is_distinct (row_numbers ids)) d in
+    let apart : (n : ℕ) → is_in n (row_numbers ids) ≡ true → x.0 ≡ n → ⊥ =
+    λ n i e. true≢false (sym i ∙ ap (λ (k : ℕ). is_in k (row_numbers ids)) (sym e) ∙ not-true (is_in x.0 (row_numbers ids)) parts.0) in
+    let rest = leaves ids (without x.0 live) parts.1 (λ n i. numbered-without n x.0 (apart n i) live ∙ h n (or_right (x.0 == n) (is_in n (row_numbers ids)) i)) in
+    record {
+      left = rest.left;
+      is = ap (λ (b : Bool). if b then deleted ids (without x.0 live) else Err (BadId x.0)) (h x.0 (or_left (x.0 == x.0) (is_in x.0 (row_numbers ids)) (eq-eqb x.0 x.0 refl))) ∙ rest.is;
+      others = λ n i.
+          let two = or_parts (x.0 == n) (is_in n (row_numbers ids)) i in
+          rest.others n two.1 ∙ row_without n x.0 live (λ e. true≢false (sym (eq-eqb x.0 n e) ∙ two.0));
+    }
+
+-- ---- the line
+
+ids_made : (ids : List RowNo) → ((n : ℕ) → is_in n (row_numbers ids) ≡ true → (1 ≤ n) × (n < 10 ^ 18)) → list_all is_made_id ids ≡ true
+ids_made [] h = refl
+ids_made (x ∷ ids) h =
+    let here = h x.0 (or_left (x.0 == x.0) (is_in x.0 (row_numbers ids)) (eq-eqb x.0 x.0 refl)) in
+    and_from (is_made_id x) (list_all is_made_id ids) (and_from (nat_le 1 x.0) (nat_le x.0 (10 ^ 18 - 1)) (le-leb 1 x.0 here.0) (le-leb x.0 (10 ^ 18 - 1) (omega (arith, here.1))))
+    (ids_made ids (λ n i. h n (or_right (x.0 == n) (is_in n (row_numbers ids)) i)))
+
+ids_short : (ids : List RowNo) → ((n : ℕ) → is_in n (row_numbers ids) ≡ true → (1 ≤ n) × (n < 10 ^ 18)) → length (spaced (map id_text ids)) ≤ 19 * length ids
+ids_short [] h = omega arith
+ids_short (x ∷ ids) h =
+    let here = h x.0 (or_left (x.0 == x.0) (is_in x.0 (row_numbers ids)) (eq-eqb x.0 x.0 refl)) in
+    let rest = ids_short ids (λ n i. h n (or_right (x.0 == n) (is_in n (row_numbers ids)) i)) in
+    omega (arith, rest, length-append (decimal x.0) (spaced (map id_text ids)), length-decimal-le 18 x.0 (omega arith) here.1 (omega (arith, here.1)))
+
+some_made : (ids : List RowNo) → 0 < length ids → list_all is_made_id ids ≡ true → is_some_of is_made_id ids ≡ true
+some_made [] l h = absurd (omega arith)
+some_made (x ∷ ids) l h = h
+
+pub del_writable : (ids : List RowNo) → 0 < length ids → length ids ≤ 20000 → ((n : ℕ) → is_in n (row_numbers ids) ≡ true → (1 ≤ n) × (n < 10 ^ 18)) → IsWritable (Del ids)
+del_writable ids some few h = record {
+  made = some_made ids some (ids_made ids h);
+  small = refl;
+  short = omega (arith, ids_short ids h, few, length-append (codes "del" ++ 32 ∷ (codes "id" ++ spaced (map id_text ids))) (10 ∷ []));
+}
+
+-- ---- the call
+
+-- rows that were made, in a later state in which they are all live
+pub record CanForget (ids : List RowNo) (d : Derived) : Type 0 where
+  pub distinct : is_distinct (row_numbers ids) ≡ true
+  pub live : (n : ℕ) → is_in n (row_numbers ids) ≡ true → is_numbered n d.state.live ≡ true
+
+pub forget_asks : (ids : List RowNo) (d : Derived) → CanForget ids d → IsOk (deleted ids d.state.live)
+forget_asks ids d can = let l = leaves ids d.state.live can.distinct can.live in ap (λ (r : Result (List NumberedRow) Refusal). is_ok r) l.is
+
+pub numbers_within : (ids : List RowNo) (d : Derived) → CanForget ids d → IsInOrder d.state → d.state.next ≤ 10 ^ 18 → (n : ℕ) → is_in n (row_numbers ids) ≡ true → (1 ≤ n) × (n < 10 ^ 18)
+numbers_within ids d can order few n i =
+    let found = numbered_row n d.state.live (can.live n i) in
+    let place = live_within n d.state.next found.0 d.state.live order found.1 in
+    (place.0, omega (arith, place.1))
+
+-- what is left after it
+pub record Forgot (ids : List RowNo) (old new : Derived) : Type 0 where
+  pub lists : new.lists ≡ old.lists
+  pub claim : new.claim ≡ old.claim
+  pub held : new.held ≡ old.held
+  pub least : new.state.least ≡ old.state.least
+  pub next : new.state.next ≡ old.state.next
+  pub others : (n : ℕ) → is_in n (row_numbers ids) ≡ false → row_of n new.state.live ≡ row_of n old.state.live
+
+pub forgot : (ids : List RowNo) (old new : Derived) → CanForget ids old → Takes (Del ids) old new → Forgot ids old new
+forgot ids old new can taken =
+    let l = leaves ids old.state.live can.distinct can.live in
+    let made : ◌≡◌ {A = Result State Refusal} (Ok (record old.state { live = l.left })) (Ok new.state) = sym (ap (λ (r : Result (List NumberedRow) Refusal). and_then r (λ left. Ok (record old.state { live = left }))) l.is) ∙ taken.step.leads in
+    let state : new.state ≡ record old.state { live = l.left } = cc in
+    record {
+      lists = ap (λ (d : Derived). d.lists) taken.is;
+      claim = ap (λ (d : Derived). d.claim) taken.is;
+      held = ap (λ (d : Derived). d.held) taken.is;
+      least = ap (λ (s : State). s.least) state;
+      next = ap (λ (s : State). s.next) state;
+      others = λ n i. ap (λ (s : State). row_of n s.live) state ∙ l.others n i;
+    }
+
+pub some_there : (n m : ℕ) → n ≡ m → (n == 0) ≡ false → 0 < m
+some_there zero m e f = absurd (true≢false f)
+some_there (suc n) m e f = omega arith

@@ -1,0 +1,15 @@
+mod Quiet
+mod AtMost
+mod RuleA
+mod RuleB
+mod Tested
+mod OfferRun
+mod OfferRow
+mod Writable
+mod OfferMade
+mod UnitMade
+mod Offering
+mod Implied
+mod Forgets
+mod Deleting
+mod Reducing

@@ -1,0 +1,209 @@
+-- Pairs are deleted one after another.
+use Rattle.std.proofs.Common.{◌≡◌, ◌≢◌, ℕ, zero, suc, ◌+◌, ◌-◌, ◌*◌, ◌<◌, ◌≤◌, ◌^◌, Bool, true, false, ◌||◌, ◌==◌, List, [], ◌∷◌, ◌++◌, if◌then◌else◌, length, get_or, set, count_by, refl, sym, ap, ap₂, ◌∙◌, subst, inl, inr, arith, append_assoc, length-set, get_or-set_same, get_or-set_other}
+use Rattle.std.specs.Prelude.{Option, Some, None, IfSome, is_some, slice_set, replicate}
+use Rattle.std.proofs.lemmas.Bool.{cases_Bool, cases_eq, eqb-true, or_cases, or_left, or_right, true≢false}
+use Rattle.std.proofs.lemmas.List.{append-nil, length-append}
+use Rattle.std.proofs.lemmas.List.Folds.{sum_by-replicate}
+use Rattle.std.proofs.lemmas.List.Sums.{count_by-le-length, sum_by-set}
+use Rattle.hrt_base.specs.declared.numbered.RowNo.{RowNo}
+use Rattle.pb_rows.specs.Formula.{NumberedRow, row_of}
+use Rattle.rank_tables.specs.Numbers.{is_in}
+use Rattle.rank_tables.specs.Instance.{Lists, pair_count}
+use Rattle.rank_tables.specs.Tables.{IsPairNo}
+use Rattle.stability_model.specs.Gone.{AreGone, Gone, rule_a, rule_b}
+use Rattle.stability_model.proofs.GoneInNone.{gone_in_none}
+use Rattle.stability_model.proofs.GoneSteps.{gone_exact, gone_step}
+use Rattle.proof_lines.specs.Spelling.{row_no}
+use Rattle.proof_rules.specs.Held.{Held, keeping}
+use Rattle.proof_rules.proofs.Held.{is_in-append}
+use Rattle.derivation.specs.Deletions.{AreUnitRows, Deletions, deleted_count, is_deleted, unit_of, unit_row}
+use Rattle.derivation.specs.Derived.{Derived}
+use Rattle.derivation.specs.Ready.{IsReady}
+use Rattle.pair_reduction.specs.Reduced.{AreInNone, CanReduce, Deletes, GoesOn, HoldsUnits, IsClosedTo, KeepsLive, MakesFew, Reduces}
+use Rattle.pair_reduction.proofs.Offering.{goes_further, goes_nowhere, kept_further, units_kept}
+
+-- ---- the map
+
+pub absent_from : (o : Option RowNo) → is_some o ≡ false → o ≡ None
+absent_from None e = refl
+absent_from (Some id) e = absurd (true≢false e)
+
+module _ (before : Deletions) (p : ℕ) (id : RowNo) (first : 1 ≤ p) (last : p ≤ length before) where
+  same_place : (k : ℕ) → k < length before → get_or (set before k (Some id)) k None ≡ Some id
+  same_place k within = rw get_or-set_same
+
+  pub marked_here : unit_of (slice_set before (p - 1) (Some id)) p ≡ Some id
+  marked_here = by p refl
+    where
+      by : (k : ℕ) → p ≡ k → unit_of (slice_set before (p - 1) (Some id)) k ≡ Some id
+      by zero e = absurd (omega arith)
+      by (suc k) e =
+          let same : p - 1 ≡ k = omega arith in
+          let within : k < length before = omega arith in
+          ap (λ (j : ℕ). get_or (set before j (Some id)) k None) same ∙ same_place k within
+
+  pub marked_other : (q : ℕ) → (q ≡ p → ⊥) → unit_of (slice_set before (p - 1) (Some id)) q ≡ unit_of before q
+  marked_other zero other = refl
+  marked_other (suc k) other = let ne : k ≢ p - 1 = λ e. other (omega arith) in rw get_or-set_other
+
+  module _ (absent : unit_of before p ≡ None) where
+    free : get_or before (p - 1) None ≡ None
+    free = by p refl absent
+      where
+        by : (k : ℕ) → p ≡ k → unit_of before k ≡ None → get_or before (p - 1) None ≡ None
+        by zero e h = absurd (omega arith)
+        by (suc k) e h = let same : p - 1 ≡ k = omega arith in ap (λ (j : ℕ). get_or before j None) same ∙ h
+
+    pub marked_count : deleted_count (slice_set before (p - 1) (Some id)) ≡ deleted_count before + 1
+    marked_count =
+        let s = sum_by-set (λ (o : Option RowNo). if is_some o then 1 else 0) before (p - 1) (Some id) None (omega arith) in
+        let z : ◌≡◌ {A = ℕ} (if is_some (get_or before (p - 1) None) then 1 else 0) 0 = ap (λ (o : Option RowNo). if is_some o then 1 else 0) free in
+        omega (arith, s, z)
+
+    pub one_left : deleted_count before + 1 ≤ length before
+    one_left = omega (arith, marked_count, count_by-le-length is_some (slice_set before (p - 1) (Some id)), length-set before (p - 1) (Some id))
+
+-- ---- one pair more
+
+grown_unit : (before : Deletions) (p q : ℕ) (id : RowNo) (other : RowNo) → 1 ≤ p → p ≤ length before → unit_of before p ≡ None → unit_of before q ≡ Some other → unit_of (slice_set before (p - 1) (Some id)) q ≡ Some other
+grown_unit before p q id other first last absent e =
+    marked_other before p id first last q (λ f. let wrong : ◌≡◌ {A = Option RowNo} None (Some other) = sym absent ∙ ap (unit_of before) (sym f) ∙ e in absurd (cc)) ∙ e
+
+was_deleted : (before : Deletions) (p q : ℕ) (id : RowNo) → 1 ≤ p → p ≤ length before → is_deleted (slice_set before (p - 1) (Some id)) q ≡ true → (q ≡ p → ⊥) → is_deleted before q ≡ true
+was_deleted before p q id first last e other = ap is_some (sym (marked_other before p id first last q other)) ∙ e
+
+some_of : (o : Option RowNo) → is_some o ≡ true → (id : RowNo) × (o ≡ Some id)
+some_of None e = absurd (true≢false (sym e))
+some_of (Some id) e = (id, refl)
+
+one_of : (n k : ℕ) → is_in n (k ∷ []) ≡ true → n ≡ k
+one_of n k e = elim (or_cases (k == n) false e) [
+  | inl f ↦ sym (eqb-true k n f)
+  | inr f ↦ absurd (cc)
+]
+
+units_with : (live : List NumberedRow) (before : Deletions) (p q : ℕ) (id : RowNo) → 1 ≤ p → p ≤ length before → AreUnitRows live before → row_of id.0 live ≡ Some (unit_row p) → IfSome (unit_of (slice_set before (p - 1) (Some id)) q) (λ k. row_of k.0 live ≡ Some (unit_row q))
+units_with live before p q id first last units row = elim (cases_eq q p) [
+  | inl e ↦ subst (λ (o : Option RowNo). IfSome o (λ k. row_of k.0 live ≡ Some (unit_row q))) (sym (ap (unit_of (slice_set before (p - 1) (Some id))) e ∙ marked_here before p id first last)) (row ∙ ap (λ (k : ℕ). Some (unit_row k)) (sym e))
+  | inr other ↦ subst (λ (o : Option RowNo). IfSome o (λ k. row_of k.0 live ≡ Some (unit_row q))) (sym (marked_other before p id first last q other)) (units q)
+]
+
+pub reduces_one : (lists : Lists) (old new : Derived) (before after : Deletions) (p : ℕ) → CanReduce lists old before → IsPairNo lists p → unit_of before p ≡ None → (rule_a lists (is_deleted before) p || rule_b lists (is_deleted before) p) ≡ true →
+    Deletes old new before after p → new.state.next ≤ old.state.next + 20001 → Reduces lists old new before after
+reduces_one lists old new before after p can p_is absent rule d few =
+    let first : 1 ≤ p = p_is.0 in
+    let last : p ≤ length before = omega (arith, can.pairs, p_is.1) in
+    let id : RowNo = row_no d.id in
+    let marked : after ≡ slice_set before (p - 1) (Some id) = d.marked in
+    let count : deleted_count after ≡ deleted_count before + 1 = ap deleted_count marked ∙ marked_count before p id first last absent in
+    let here : unit_of after p ≡ Some id = ap (λ (m : Deletions). unit_of m p) marked ∙ marked_here before p id first last in
+    let left = one_left before p id first last absent in
+    record {
+      can = record {
+        same = can.same ∙ sym d.goes_on.lists;
+        ready = d.ready;
+        units = subst (AreUnitRows new.state.live) (sym marked) (λ q. units_with new.state.live before p q id first last (units_kept old new before d.kept can.units) d.row);
+        pairs = ap length marked ∙ length-set before (p - 1) (Some id) ∙ can.pairs;
+        gone = λ q e. elim (cases_eq q p) [
+          | inl f ↦ subst (Gone lists) (sym f) (gone_step lists (is_deleted before) p (λ k h. can.gone k h) p_is rule)
+          | inr other ↦ can.gone q (was_deleted before p q id first last (ap (λ (m : Deletions). is_deleted m q) (sym marked) ∙ e) other)
+        ];
+        room = omega (arith, can.room, few, count, can.pairs, left);
+      };
+      goes_on = d.goes_on;
+      kept = d.kept;
+      few = omega (arith, few, count);
+      stays = λ q other e. ap (λ (m : Deletions). unit_of m q) marked ∙ grown_unit before p q id other first last absent e;
+      ids = d.id ∷ [];
+      held = d.held;
+      count = omega (arith, count);
+      each = λ n i. (p, here ∙ ap (λ (k : ℕ). Some (row_no k)) (sym (one_of n d.id i)));
+    }
+
+-- ---- none and several
+
+pub reduces_none : (lists : Lists) (d : Derived) (deletions : Deletions) → CanReduce lists d deletions → Reduces lists d d deletions deletions
+reduces_none lists d deletions can = record {
+  can = can;
+  goes_on = goes_nowhere d;
+  kept = λ n row e. e;
+  few = omega arith;
+  stays = λ p id e. e;
+  ids = [];
+  held = ap (λ (ns : List ℕ). record d.held { kept = ns }) (sym (append-nil d.held.kept));
+  count = omega arith;
+  each = λ n i. absurd (true≢false (sym i));
+}
+
+pub reduces_more : (lists : Lists) (a b c : Derived) (x y z : Deletions) → Reduces lists a b x y → Reduces lists b c y z → Reduces lists a c x z
+reduces_more lists a b c x y z g h = record {
+  can = h.can;
+  goes_on = goes_further a b c g.goes_on h.goes_on;
+  kept = kept_further a b c g.kept h.kept;
+  few = omega (arith, g.few, h.few);
+  stays = λ p id e. h.stays p id (g.stays p id e);
+  ids = g.ids ++ h.ids;
+  held = h.held ∙ ap (keeping h.ids) g.held ∙ ap (λ (ns : List ℕ). record a.held { kept = ns }) (append_assoc a.held.kept g.ids h.ids);
+  count = omega (arith, g.count, h.count, length-append g.ids h.ids);
+  each = λ n i.
+      elim (or_cases (is_in n g.ids) (is_in n h.ids) (sym (is_in-append n g.ids h.ids) ∙ i)) [
+        | inl e ↦ let found = g.each n e in (found.0, h.stays found.0 (row_no n) found.1)
+        | inr e ↦ h.each n e
+      ];
+}
+
+pub reduces_as : (lists : Lists) (a b c : Derived) (x y z : Deletions) → c ≡ b → z ≡ y → Reduces lists a b x y → Reduces lists a c x z
+reduces_as lists a b c x y z e f g = subst (λ (d : Derived). Reduces lists a d x z) (sym e) (subst (λ (m : Deletions). Reduces lists a b x m) (sym f) g)
+
+-- ---- one pair is tried
+
+pub left_of : (lists : Lists) (d : Derived) (deletions : Deletions) (p : ℕ) → CanReduce lists d deletions → IsPairNo lists p → is_deleted deletions p ≡ false → deleted_count deletions + 1 ≤ pair_count lists
+left_of lists d deletions p can p_is e =
+    omega (arith, one_left deletions p (row_no 0) p_is.0 (omega (arith, can.pairs, p_is.1)) (absent_from (unit_of deletions p) e), can.pairs)
+
+pub tried_a : (inst lists : Lists) (old new : Derived) (before after : Deletions) (p : ℕ) → CanReduce lists old before → IsPairNo lists p → is_deleted before p ≡ false → inst ≡ lists → rule_a inst (is_deleted before) p ≡ true → Deletes old new before after p →
+    new.state.next ≤ old.state.next + 20001 → Reduces lists old new before after
+tried_a inst lists old new before after p can p_is e same rule d few =
+    reduces_one lists old new before after p can p_is (absent_from (unit_of before p) e)
+    (or_left (rule_a lists (is_deleted before) p) (rule_b lists (is_deleted before) p) (subst (λ (l : Lists). rule_a l (is_deleted before) p ≡ true) same rule)) d few
+
+pub tried_b : (inst lists : Lists) (old new : Derived) (before after : Deletions) (p : ℕ) → CanReduce lists old before → IsPairNo lists p → is_deleted before p ≡ false → inst ≡ lists → rule_b inst (is_deleted before) p ≡ true → Deletes old new before after p →
+    new.state.next ≤ old.state.next + 20001 → Reduces lists old new before after
+tried_b inst lists old new before after p can p_is e same rule d few =
+    reduces_one lists old new before after p can p_is (absent_from (unit_of before p) e)
+    (or_right (rule_a lists (is_deleted before) p) (rule_b lists (is_deleted before) p) (subst (λ (l : Lists). rule_b l (is_deleted before) p ≡ true) same rule)) d few
+
+-- at least one more is deleted
+pub one_more : (old new : Derived) (before after : Deletions) (p : ℕ) → 1 ≤ p → p ≤ length before → is_deleted before p ≡ false → Deletes old new before after p → deleted_count before < deleted_count after
+one_more old new before after p first last e d = omega (arith, ap deleted_count d.marked, marked_count before p (row_no d.id) first last (absent_from (unit_of before p) e))
+
+neither : (a b : Bool) → a ≡ false → b ≡ false → (a || b) ≡ true → ⊥
+neither true b e f h = true≢false e
+neither false true e f h = true≢false f
+neither false false e f h = true≢false (sym h)
+
+pub closed_by_none : (inst other lists : Lists) (deletions : Deletions) (p : ℕ) → inst ≡ lists → other ≡ lists → rule_a inst (is_deleted deletions) p ≡ false → rule_b other (is_deleted deletions) p ≡ false → IsClosedTo lists deletions p
+closed_by_none inst other lists deletions p same again a b h =
+    absurd (neither (rule_a lists (is_deleted deletions) p) (rule_b lists (is_deleted deletions) p) (subst (λ (l : Lists). rule_a l (is_deleted deletions) p ≡ false) same a) (subst (λ (l : Lists). rule_b l (is_deleted deletions) p ≡ false) again b) h)
+
+-- ---- a pass
+
+pub closed_more : (lists : Lists) (old new : Deletions) (done p : ℕ) → ((q : ℕ) → 1 ≤ q → q ≤ done → IsClosedTo lists old q) → new ≡ old → IsClosedTo lists new (done + 1) → 1 ≤ p → p ≤ done + 1 → IsClosedTo lists new p
+closed_more lists old new done p so_far same here first last = elim (cases_eq p (done + 1)) [
+  | inl e ↦ subst (IsClosedTo lists new) (sym e) here
+  | inr other ↦ subst (λ (m : Deletions). IsClosedTo lists m p) (sym same) (so_far p first (omega arith))
+]
+
+-- ---- the end
+
+pub are_gone : (lists at : Lists) (d : Derived) (deletions : Deletions) → lists ≡ at → CanReduce lists d deletions → ((p : ℕ) → IsPairNo lists p → IsClosedTo lists deletions p) → AreGone at (is_deleted deletions)
+are_gone lists at d deletions same can closed = subst (λ (l : Lists). AreGone l (is_deleted deletions)) same (gone_exact lists (is_deleted deletions) can.gone closed)
+
+pub are_in_none : (lists at : Lists) (d : Derived) (deletions : Deletions) → lists ≡ at → CanReduce lists d deletions → AreInNone at deletions
+are_in_none lists at d deletions same can = subst (λ (l : Lists). AreInNone l deletions) same (λ m p s e. gone_in_none lists m p s (can.gone p e))
+
+none_counted : (n : ℕ) → deleted_count (replicate n None) ≡ 0
+none_counted n = let e = sum_by-replicate (λ (o : Option RowNo). if is_some o then 1 else 0) n None in omega (arith, e)
+
+pub holds_units : (lists : Lists) (old new : Derived) (deletions : Deletions) (n : ℕ) → Reduces lists old new (replicate n None) deletions → HoldsUnits old new deletions
+holds_units lists old new deletions n r = record { ids = r.ids; held = r.held; count = omega (arith, r.count, none_counted n); each = r.each }

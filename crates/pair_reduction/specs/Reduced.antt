@@ -1,0 +1,126 @@
+-- What a reduction leaves.
+use Rattle.std.specs.Prelude.{◌||◌, ◌^◌, [], ◌∷◌, ◌-◌, slice_set, Bool, ◌&&◌, nat_lt, count_by, ◌≡◌, ℕ, ◌+◌, ◌*◌, ◌≤◌, true, false, ◌⊎◌, List, length, Some}
+use Rattle.pb_rows.specs.Terms.{PlainRow}
+use Rattle.hrt_base.specs.declared.numbered.RowNo.{RowNo}
+use Rattle.pb_rows.specs.Formula.{NumberedRow, is_numbered, row_of}
+use Rattle.rank_tables.specs.Numbers.{is_distinct, is_in}
+use Rattle.rank_tables.specs.Instance.{Lists, capacity_of, pair_at, pair_count, pairs_of_hospital, rank_by_hospital}
+use Rattle.rank_tables.specs.Tables.{IsPairNo}
+use Rattle.stability_model.specs.Gone.{Gone, has_only, rule_a, rule_b}
+use Rattle.rank_tables.specs.Stability.{is_weakly_stable}
+use Rattle.proof_lines.specs.declared.line.Line.TheVariants.{Rup}
+use Rattle.proof_lines.specs.declared.note.Note.TheVariants.{Unit as UnitRow}
+use Rattle.proof_lines.specs.Spelling.{row_no}
+use Rattle.proof_lines.specs.Texts.{line_text}
+use Rattle.proof_rules.specs.Held.{keeping, row_numbers}
+use Rattle.derivation.specs.Deletions.{AreUnitRows, Deletions, deleted_count, is_deleted, unit_of, unit_row}
+use Rattle.derivation.specs.Derived.{Derived, StaysValid}
+use Rattle.derivation.specs.Ready.{IsReady}
+use Rattle.derivation.specs.Steps.{with_new_row, with_note, written_of}
+use Rattle.pair_reduction.specs.Offers.{offer_row}
+
+-- no weakly stable matching has a pair that is deleted
+abbrev pub AreInNone : Lists → Deletions → Type 0
+AreInNone lists deletions = (m : List ℕ) (p : ℕ) → is_weakly_stable lists m ≡ true → is_deleted deletions p ≡ true → is_in p m ≡ false
+
+-- each row that was live is live
+abbrev pub KeepsLive : Derived → Derived → Type 0
+KeepsLive old new = (n : ℕ) (row : PlainRow) → row_of n old.state.live ≡ Some row → row_of n new.state.live ≡ Some row
+
+-- the derivation went on by more lines that log and conclude nothing
+pub record GoesOn (old new : Derived) : Type 0 where
+  pub lists : new.lists ≡ old.lists
+  pub claim : new.claim ≡ old.claim
+  pub least : new.state.least ≡ old.state.least
+  pub valid : StaysValid old new
+
+-- the rows of the deleted pairs, one for each, are held from here on, and no other row
+pub record HoldsUnits (old new : Derived) (deletions : Deletions) : Type 0 where
+  pub ids : List ℕ
+  pub held : new.held ≡ keeping ids old.held
+  pub count : length ids ≡ deleted_count deletions
+  pub each : (n : ℕ) → is_in n ids ≡ true → (p : ℕ) × (unit_of deletions p ≡ Some (record { 0 = n }))
+
+-- at most 20,001 rows were made for each of so many pairs
+abbrev pub MakesFew : ℕ → Derived → Derived → Type 0
+MakesFew pairs old new = new.state.next ≤ old.state.next + 20001 * pairs
+
+-- the unit row of a pair was made by a `rup` line, and a note names it
+abbrev pub with_unit_row : ℕ → Derived → Derived
+with_unit_row p d = with_new_row (unit_row p) (line_text (Rup (written_of (unit_row p)))) d
+
+abbrev pub with_unit : ℕ → Derived → Derived
+with_unit p d = with_note (UnitRow (row_no d.state.next)) (with_unit_row p d)
+
+-- where memory was wanting nothing was done, or all but the note
+abbrev pub StopsAtUnit : ℕ → Derived → Derived → Type 0
+StopsAtUnit p old new = (new ≡ old) ⊎ (new ≡ with_unit_row p old)
+
+-- ---- rows that are made for a while
+
+-- so many rows were made, and nothing else was done
+pub record Adds (old new : Derived) (rows : ℕ) : Type 0 where
+  pub goes_on : GoesOn old new
+  pub kept : KeepsLive old new
+  pub ready : IsReady new
+  pub held : new.held ≡ old.held
+  pub next : new.state.next ≡ old.state.next + rows
+
+-- a resident that the hospital of p strictly prefers and that has nothing else
+abbrev pub is_offering : Lists → Deletions → ℕ → ℕ → Bool
+is_offering lists deletions p q = nat_lt (rank_by_hospital lists q) (rank_by_hospital lists p) && has_only lists (is_deleted deletions) q
+
+-- the numbers of rows that were made since: each once, each live, from so many on
+pub record AreMade (from : ℕ) (live : List NumberedRow) (ids : List RowNo) : Type 0 where
+  pub distinct : is_distinct (row_numbers ids) ≡ true
+  pub each : (n : ℕ) → is_in n (row_numbers ids) ≡ true → (from ≤ n) × (is_numbered n live ≡ true)
+
+-- so many of the pairs are offering, and the row of each of these offers is live
+pub record HaveOffers (lists : Lists) (deletions : Deletions) (p : ℕ) (qs : List ℕ) (live : List NumberedRow) (count : ℕ) : Type 0 where
+  pub counts : count ≡ count_by (is_offering lists deletions p) qs
+  pub rows : (q : ℕ) → is_in q qs ≡ true → is_offering lists deletions p q ≡ true → (n : ℕ) × (row_of n live ≡ Some (offer_row lists q))
+
+-- some pairs of the hospital of p, as many as it has posts, are offering, and the rows of their offers are live
+pub record HasOffers (lists : Lists) (deletions : Deletions) (p : ℕ) (live : List NumberedRow) : Type 0 where
+  pub offered : ℕ → Bool
+  pub enough : capacity_of lists (pair_at lists p).hospital ≤ count_by (λ q. nat_lt (rank_by_hospital lists q) (rank_by_hospital lists p) && offered q) (pairs_of_hospital lists (pair_at lists p).hospital)
+  pub rows : (q : ℕ) → IsPairNo lists q → offered q ≡ true → (n : ℕ) × (row_of n live ≡ Some (offer_row lists q))
+
+-- ---- one pair
+
+-- pair p was deleted: its row is live, is marked and is held, and nothing else is left of what was made
+pub record Deletes (old new : Derived) (before after : Deletions) (p : ℕ) : Type 0 where
+  pub id : ℕ
+  pub goes_on : GoesOn old new
+  pub kept : KeepsLive old new
+  pub ready : IsReady new
+  pub held : new.held ≡ keeping (id ∷ []) old.held
+  pub marked : after ≡ slice_set before (p - 1) (Some (row_no id))
+  pub row : row_of id new.state.live ≡ Some (unit_row p)
+
+-- ---- several pairs
+
+-- what is asked for before more pairs are deleted
+pub record CanReduce (lists : Lists) (d : Derived) (deletions : Deletions) : Type 0 where
+  pub same : lists ≡ d.lists
+  pub ready : IsReady d
+  pub units : AreUnitRows d.state.live deletions
+  pub pairs : length deletions ≡ pair_count lists
+  pub gone : (p : ℕ) → is_deleted deletions p ≡ true → Gone lists p
+  pub room : d.state.next + 20001 * (pair_count lists - deleted_count deletions) ≤ 10 ^ 18
+
+-- some pairs were deleted: the rows of those are held, one for each, and those from before are as they were
+pub record Reduces (lists : Lists) (old new : Derived) (before after : Deletions) : Type 0 where
+  pub can : CanReduce lists new after
+  pub goes_on : GoesOn old new
+  pub kept : KeepsLive old new
+  pub few : new.state.next + 20001 * deleted_count before ≤ old.state.next + 20001 * deleted_count after
+  pub stays : (p : ℕ) (id : RowNo) → unit_of before p ≡ Some id → unit_of after p ≡ Some id
+  pub ids : List ℕ
+  pub held : new.held ≡ keeping ids old.held
+  pub count : length ids + deleted_count before ≡ deleted_count after
+  pub each : (n : ℕ) → is_in n ids ≡ true → (p : ℕ) × (unit_of after p ≡ Some (row_no n))
+
+-- where a rule shows the pair, it is deleted
+abbrev pub IsClosedTo : Lists → Deletions → ℕ → Type 0
+IsClosedTo lists deletions p = (rule_a lists (is_deleted deletions) p || rule_b lists (is_deleted deletions) p) ≡ true → is_deleted deletions p ≡ true

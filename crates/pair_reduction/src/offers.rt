@@ -1,0 +1,159 @@
+// Offers: for a resident that has nothing else left than a pair, the row that this pair is taken where its hospital takes one
+// that it ranks lower.
+ghost use Rattle.std.specs.Prelude.{◌≡◌, ◌+◌, ◌<◌, ◌≤◌, ◌++◌, ◌^◌, IfOk, OnErr, OnOk, length, pos, true};
+ghost use Rattle.rank_tables.specs.Instance.{capacity_of, pair_at, pairs_of_hospital};
+ghost use Rattle.rank_tables.specs.Tables.{IsPairNo};
+ghost use Rattle.rank_tables.specs.WellFormed.{IsWellFormed};
+ghost use Rattle.stability_model.specs.Gone.{has_only, rule_b};
+ghost use Rattle.proof_lines.specs.Texts.{line_text};
+ghost use Rattle.proof_rules.specs.States.{IsInOrder};
+ghost use Rattle.derivation.specs.Deletions.{AreUnitRows, is_deleted};
+ghost use Rattle.derivation.specs.Derived.{StaysValid};
+ghost use Rattle.derivation.specs.Ready.{IsReady};
+ghost use Rattle.derivation.specs.Steps.{with_new_row};
+ghost use Rattle.pair_reduction.specs.Offers.{before_steps, offer_row, offer_steps, row_steps, unit_steps};
+ghost use Rattle.pair_reduction.specs.Reduced.{Adds, AreMade, GoesOn, HasOffers};
+
+use crate::rules::has_only;
+use derivation::{Deleted, Derivation};
+use hrt_base::{NoMemory, PairNo, RowNo};
+use proof_lines::{Line, PolStep};
+use rank_tables::Instance;
+use stability_model::Model;
+use std::alloc::Global;
+
+/// Adds the posts times the unit row of a pair, if it has one.
+fn push_unit(steps: &mut Vec<PolStep>, unit: Option<RowNo>, posts: u32) -> Result<(), NoMemory>
+    ensures { OnOk result (steps.new.items ≡ steps.old.items ++ unit_steps posts unit) }
+{
+    let Some(id) = unit else {
+        return Ok(());
+    };
+    steps.push(PolStep::Id(id))?;
+    steps.push(PolStep::Times(i128::from(posts)))?;
+    steps.push(PolStep::Add)?;
+    Ok(())
+}
+
+/// Adds a row of the model.
+fn push_row(steps: &mut Vec<PolStep>, number: Option<u32>) -> Result<(), NoMemory>
+    ensures { OnOk result (steps.new.items ≡ steps.old.items ++ row_steps number) }
+{
+    let Some(k) = number else {
+        return Ok(());
+    };
+    steps.push(PolStep::Id(RowNo(u64::from(k))))?;
+    steps.push(PolStep::Add)?;
+    Ok(())
+}
+
+/// Adds what a pair of the resident of q takes away, if it is ranked as high as q.
+fn push_before(
+    steps: &mut Vec<PolStep>,
+    inst: &Instance,
+    gone: &Deleted,
+    q: PairNo,
+    o: PairNo,
+) -> Result<(), NoMemory>
+    requires q { IsPairNo inst.now q.0 }
+    requires o { IsPairNo inst.now o.0 }
+    ensures { OnOk result (steps.new.items ≡ steps.old.items ++ before_steps inst.now gone.now q.0 o.0) }
+{
+    if o.0 == q.0 || inst.rank_by_resident(o) > inst.rank_by_resident(q) {
+        return Ok(());
+    }
+    let posts = inst.capacity(inst.hospital_of(q));
+    push_unit(steps, gone.unit_row(o), posts)
+}
+
+/// The steps of an offer's line.
+fn offer_steps(
+    alloc: Global,
+    model: &Model,
+    gone: &Deleted,
+    q: PairNo,
+) -> Result<Vec<PolStep>, NoMemory>
+    requires { IsPairNo model.now q.0 }
+    ensures { IfOk result (λ steps. steps.items ≡ offer_steps model.now gone.now q.0) }
+{
+    let inst = model.instance();
+    let mut steps = Vec::new(alloc);
+    steps.push(PolStep::Id(RowNo(u64::from(model.pair_row(q)))))?;
+    let pairs = inst.pairs_of_resident(inst.resident_of(q));
+    for o in pairs {
+        push_before(&mut steps, inst, gone, q, *o)?;
+    }
+    push_row(&mut steps, model.hospital_row(inst.hospital_of(q)))?;
+    Ok(steps)
+}
+
+/// Makes the row of an offer. It is never too big: there are at most 100,000 pairs and 20,000 posts.
+pub(crate) fn offer(
+    alloc: Global,
+    model: &Model,
+    deriv: &mut Derivation,
+    gone: &Deleted,
+    q: PairNo,
+) -> Result<RowNo, NoMemory>
+    requires model { model.now ≡ deriv.old.lists }
+    requires ready { IsReady deriv.old }
+    requires units { AreUnitRows deriv.old.state.live gone.now }
+    requires q { IsPairNo model.now q.0 }
+    requires only { has_only model.now (is_deleted gone.now) q.0 ≡ true }
+    requires posts { 0 < capacity_of model.now (pair_at model.now q.0).hospital }
+    requires few { capacity_of model.now (pair_at model.now q.0).hospital ≤ length (pairs_of_hospital model.now (pair_at model.now q.0).hospital) }
+    requires next { deriv.old.state.next < 10 ^ 18 }
+    ensures id { IfOk result (λ id. id.0 ≡ deriv.old.state.next) }
+    ensures made { OnOk result (deriv.new ≡ with_new_row (offer_row model.now q.0) (line_text (Line.Pol (offer_steps model.now gone.now q.0))) deriv.old) }
+    ensures err { OnErr result (deriv.new ≡ deriv.old) }
+    ensures valid { StaysValid deriv.old deriv.new }
+    ensures order { IsInOrder deriv.old.state }
+{
+    let inst = model.instance();
+    let hospital = inst.hospital_of(q);
+    let _limits = (inst.pairs(), inst.residents(), inst.capacity(hospital));
+    let _numbers = (model.pair_row(q), deriv.next());
+    let steps = offer_steps(alloc, model, gone, q)?;
+    match deriv.pol(alloc, model, &steps) {
+        Ok(id) => Ok(id),
+        Err(_) => Err(NoMemory),
+    }
+}
+
+/// Makes the rows of so many offers to the hospital of p as it has posts, from residents that it strictly prefers.
+pub(crate) fn offers(
+    alloc: Global,
+    model: &Model,
+    deriv: &mut Derivation,
+    gone: &Deleted,
+    p: PairNo,
+) -> Result<Vec<RowNo>, NoMemory>
+    requires model { model.now ≡ deriv.old.lists }
+    requires ready { IsReady deriv.old }
+    requires units { AreUnitRows deriv.old.state.live gone.now }
+    requires p { IsPairNo model.now p.0 }
+    requires rule { rule_b model.now (is_deleted gone.now) p.0 ≡ true }
+    requires next { deriv.old.state.next + 20000 < 10 ^ 18 }
+    ensures adds { IfOk result (λ ids. Adds deriv.old deriv.new (length ids.items)) }
+    ensures made { IfOk result (λ ids. AreMade deriv.old.state.next deriv.new.state.live ids.items) }
+    ensures few { IfOk result (λ ids. length ids.items ≤ 20000) }
+    ensures offers { OnOk result (HasOffers model.now gone.now p.0 deriv.new.state.live) }
+    ensures goes_on { GoesOn deriv.old deriv.new }
+    ensures next { deriv.new.state.next ≤ deriv.old.state.next + 20000 }
+{
+    let inst = model.instance();
+    let hospital = inst.hospital_of(p);
+    let posts = inst.capacity(hospital) as usize;
+    let mut ids = Vec::new(alloc);
+    let pairs = inst.pairs_of_hospital(hospital);
+    for q in pairs {
+        if ids.len() >= posts {
+            return Ok(ids);
+        }
+        if inst.rank_by_hospital(*q) < inst.rank_by_hospital(p) && has_only(inst, gone, *q) {
+            let id = offer(alloc, model, deriv, gone, *q)?;
+            ids.push(id)?;
+        }
+    }
+    Ok(ids)
+}

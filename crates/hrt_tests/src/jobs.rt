@@ -2,6 +2,7 @@
 ghost use Rattle.std.specs.Prelude.{◌≡◌, ◌<◌, IfOk};
 ghost use Rattle.hrt_host.specs.Memory.{memory_world};
 
+use crate::definition::instance_of;
 use crate::models::WORKED_MODEL;
 use crate::runs::{Ended, WORKED, host_with, words};
 use hrt_base::{Begun, Host, NoMemory, PairNo, Port};
@@ -9,6 +10,10 @@ use hrt_cli::run;
 use hrt_host::MemoryHost;
 use hrt_reader::read_instance;
 use hrt_solve::{bound, quick};
+use opb_text::formula_of;
+use proof_checker::Checker;
+use proof_lines::Claim;
+use stability_model::Model;
 use std::alloc::Global;
 use std::test::Fail;
 
@@ -171,6 +176,37 @@ fn proofs_are_accepted(rt: HostRuntime) -> Result<(), Fail> {
         let ended = verify(alloc, text, host.sent(Port::Proof))?;
         assert_eq!(rt; ended.code, 0);
         assert_eq!(rt; ended.host.sent(Port::Report), *bounded);
+    }
+    Ok(())
+}
+
+#[test]
+fn bounds_of_small_instances_are_accepted(rt: HostRuntime) -> Result<(), Fail> {
+    let alloc = rt.alloc();
+    for number in 0..400 {
+        let small = instance_of(number);
+        let text = small.text(alloc)?;
+        if text.len() > 1000 {
+            return Err(Fail::from(NoMemory));
+        }
+        let inst = read_instance(alloc, &text)?;
+        let mut host = writing(alloc, 1_000, 1_000_000)?;
+        let end = bound(alloc, &inst, &mut host)?;
+        let lines = host.sent(Port::Proof);
+        if lines.len() > 10_000 {
+            return Err(Fail::from(NoMemory));
+        }
+        let formula = formula_of(alloc, &Model::of(alloc, &inst)?)?;
+        let mut checker = Checker::new(alloc, formula)?;
+        checker.feed(alloc, lines)?;
+        assert_eq!(rt;
+            checker.finish(alloc)?,
+            Claim::Bounds {
+                lower: Some(-i128::from(end.ceiling)),
+                upper: None,
+            },
+            "of instance {number}"
+        );
     }
     Ok(())
 }

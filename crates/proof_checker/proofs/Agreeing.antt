@@ -1,12 +1,12 @@
 -- Points that agree on the variables of rows.
-use Rattle.std.proofs.Common.{◌≡◌, ℕ, zero, ◌+◌, ◌<◌, ◌≤◌, Bool, not, nat_le, List, [], ◌∷◌, if◌then◌else◌, ℤ, pos, ◌+ℤ◌, refl, sym, ap, ap₂, ◌∙◌, arith}
-use Rattle.std.specs.Prelude.{Result, Ok, Err}
+use Rattle.std.proofs.Common.{◌≡◌, ℕ, ◌+◌, Bool, not, nat_le, List, [], ◌∷◌, if◌then◌else◌, ℤ, pos, ◌+ℤ◌, refl, ap, ap₂}
+use Rattle.std.specs.Prelude.{Result, Err}
 use Rattle.std.specs.List.{All}
 use Rattle.std.proofs.lemmas.List.Elements.{All-head, All-tail}
 use Rattle.hrt_base.specs.declared.literal.Lit.{Lit}
 use Rattle.hrt_base.specs.declared.literal.Term.{Term}
 use Rattle.pb_rows.specs.Terms.{PlainRow, weight}
-use Rattle.pb_rows.specs.Points.{IsCovered, Point, is_true_at, share, signed_share, true_sum, value_at}
+use Rattle.pb_rows.specs.Points.{IsCovered, Point, is_true_at, true_sum, value_at}
 use Rattle.pb_rows.specs.Rows.{holds}
 use Rattle.proof_rules.specs.Refusals.{Refusal, NotASolution}
 use Rattle.proof_rules.specs.States.{if_hold}

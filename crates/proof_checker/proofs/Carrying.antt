@@ -1,19 +1,18 @@
 -- Texts that lead to the same still do when the same bytes follow, and have the same verdicts.
-use Rattle.std.proofs.Common.{◌≡◌, ℕ, zero, suc, ◌+◌, ◌≤◌, ◌<◌, ◌==◌, Bool, true, false, nat_le, List, [], ◌∷◌, ◌++◌, map, length, if◌then◌else◌, ◌⊎◌, inl, inr, refl, sym, ap, ap₂, ◌∙◌, subst, arith, length-append}
+use Rattle.std.proofs.Common.{◌≡◌, ℕ, zero, suc, ◌+◌, ◌<◌, ◌==◌, Bool, true, false, nat_le, List, [], ◌∷◌, ◌++◌, map, length, if◌then◌else◌, ◌⊎◌, inl, inr, refl, sym, ap, ap₂, ◌∙◌, subst, arith, length-append}
 use Rattle.std.specs.Prelude.{Option, Some, None}
 use Rattle.std.proofs.lemmas.Bool.{leb-false}
 use Rattle.std.proofs.lemmas.Bool.Decides.{nat_tests}
 use Rattle.pb_rows.specs.Formula.{Formula}
 use Rattle.proof_lines.specs.declared.line.Claim.{Claim}
 use Rattle.proof_lines.specs.declared.line.Line.{Line}
-use Rattle.proof_lines.specs.Spelling.{most_bytes, read_line, read_tokens}
+use Rattle.proof_lines.specs.Spelling.{most_bytes, read_line}
 use Rattle.proof_rules.specs.Refusals.{Refusal}
-use Rattle.proof_rules.specs.Valid.{Done, Moves, Place, Start}
-use Rattle.proof_rules.specs.Texts.{Accepted, Cut, HasVerdict, IsTruncated, IsValidText, Reaches, Reading, Refused, Stops, Truncated, Verdict, all_lines, cut, into_first, last_line, whole_lines, with_byte}
+use Rattle.proof_rules.specs.Valid.{Done, Place, Start}
+use Rattle.proof_rules.specs.Texts.{Accepted, Cut, HasVerdict, IsValidText, Reaches, Reading, Refused, Stops, Truncated, Verdict, all_lines, cut, into_first, last_line, whole_lines, with_byte}
 use Rattle.proof_rules.proofs.Pieces.{reaches-append, rest-append, stops-after, stops-append, whole_lines-append}
 use Rattle.proof_rules.proofs.Verdicts.{reaches-front}
 use Rattle.proof_checker.specs.Standing.{Checked, Here, LeadsTo, Led, StandsFor, Stopped, unfinished}
-use Rattle.proof_checker.specs.Answers.{Judges, verdict_of}
 
 -- ---- an unfinished line
 

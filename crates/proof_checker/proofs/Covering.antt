@@ -1,15 +1,15 @@
 -- The variables of the rows that lines make.
-use Rattle.std.proofs.Common.{◌≡◌, ℕ, ◌≤◌, ◌+◌, ◌-◌, ◌^◌, ◌&&◌, Bool, true, false, nat_le, if◌then◌else◌, List, [], ◌∷◌, map, ℤ, pos, neg_ℤ, ◌-ℤ◌, refl, sym, ap, ◌∙◌, subst, arith}
+use Rattle.std.proofs.Common.{◌≡◌, ℕ, ◌≤◌, ◌^◌, true, nat_le, if◌then◌else◌, List, [], ◌∷◌, ℤ, neg_ℤ, subst, arith}
 use Rattle.std.specs.Prelude.{Result, Ok, Err}
 use Rattle.std.specs.List.{All, AllByRecursion as ByRecursion, list_all}
 use Rattle.std.proofs.lemmas.Bool.{and_parts, leb-true}
-use Rattle.std.proofs.lemmas.List.Elements.{All-cons, All-from_recursion, All-head, All-map, All-nil, All-tail}
+use Rattle.std.proofs.lemmas.List.Elements.{All-cons, All-from_recursion, All-map, All-nil}
 use Rattle.hrt_base.specs.declared.literal.Lit.{Lit}
 use Rattle.hrt_base.specs.declared.literal.Term.{Term}
 use Rattle.pb_rows.specs.Terms.{PlainRow, Written, weighing}
 use Rattle.pb_rows.specs.Points.{IsCovered}
 use Rattle.pb_rows.specs.Normal.{all_sizes, normal_form}
-use Rattle.pb_rows.specs.Rows.{in_normal_form, literal_row}
+use Rattle.pb_rows.specs.Rows.{in_normal_form}
 use Rattle.pb_rows.specs.Formula.{NumberedRow, rows_of}
 use Rattle.pb_rows.proofs.Covers.{add_over, divide_over, normal_form_over, saturate_over, times_over, weaken_over}
 use Rattle.row_text.specs.Rows.{is_small_row}

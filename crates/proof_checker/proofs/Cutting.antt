@@ -1,5 +1,5 @@
 -- The first line of some bytes, and what it reads as.
-use Rattle.std.proofs.Common.{◌≡◌, ℕ, zero, suc, ◌+◌, ◌<◌, ◌≤◌, ◌==◌, Bool, true, false, cond, List, [], ◌∷◌, map, length, take, drop, if◌then◌else◌, inl, inr, refl, sym, ap, ◌∙◌, subst, arith}
+use Rattle.std.proofs.Common.{◌≡◌, ℕ, suc, ◌+◌, ◌<◌, ◌≤◌, ◌==◌, Bool, true, false, cond, List, [], ◌∷◌, map, length, take, drop, if◌then◌else◌, inl, inr, refl, sym, ap, ◌∙◌, subst, arith}
 use Rattle.std.specs.Prelude.{Option, Some, None, Result, Ok, Err, position}
 use Rattle.std.specs.List.{position_from}
 use Rattle.std.proofs.lemmas.Bool.{cases_Bool}
@@ -7,12 +7,12 @@ use Rattle.std.proofs.lemmas.Iterator.Adapters.{position_from-zero}
 use Rattle.proof_lines.specs.declared.line.Line.{Line}
 use Rattle.proof_lines.specs.declared.refusal.LineKind.{LineKind}
 use Rattle.proof_lines.specs.declared.refusal.LineRefusal.{LineRefusal}
-use Rattle.proof_lines.specs.declared.refusal.LineRefusal.TheVariants.{Syntax, TooBig, NoMemory}
+use Rattle.proof_lines.specs.declared.refusal.LineRefusal.TheVariants.{Syntax, TooBig}
 use Rattle.proof_lines.specs.FirstLine.{counted, first_line, judged, kind_of, line_to}
 use Rattle.proof_lines.specs.Spelling.{is_small_line, read_line}
 use Rattle.proof_lines.specs.Texts.{is_made}
 use Rattle.proof_lines.proofs.LinesMade.{line_made}
-use Rattle.proof_rules.specs.Texts.{Cut, Reading, cut, into_first, whole_lines, with_byte}
+use Rattle.proof_rules.specs.Texts.{Cut, cut, into_first, whole_lines, with_byte}
 
 abbrev is_feed : ℕ → Bool
 is_feed b = b == 10

@@ -1,28 +1,24 @@
 -- What a `rup` line makes of a state.
-use Rattle.std.proofs.Common.{◌≡◌, ◌⊎◌, ℕ, ◌≤◌, ◌<◌, ◌^◌, Bool, true, false, nat_le, List, if◌then◌else◌, inl, inr, refl, sym, ap, ◌∙◌, subst, arith}
+use Rattle.std.proofs.Common.{◌≡◌, ℕ, ◌≤◌, ◌<◌, ◌^◌, Bool, true, nat_le, if◌then◌else◌, inr, refl, sym, ap, ◌∙◌, subst, arith}
 use Rattle.std.specs.Prelude.{Result, Ok, Err}
 use Rattle.std.proofs.lemmas.Bool.{le-leb}
-use Rattle.hrt_base.specs.declared.numbered.RowNo.{RowNo}
 use Rattle.pb_rows.specs.Terms.{PlainRow, Written}
 use Rattle.pb_rows.specs.Normal.{all_sizes}
 use Rattle.pb_rows.specs.Rows.{in_normal_form}
 use Rattle.pb_rows.specs.Closure.{Implies}
-use Rattle.pb_rows.specs.Formula.{Formula, NumberedRow}
+use Rattle.pb_rows.specs.Formula.{Formula}
 use Rattle.row_text.specs.Rows.{is_small_row}
-use Rattle.proof_lines.specs.declared.line.PolStep.{PolStep}
-use Rattle.proof_lines.specs.declared.line.Line.TheVariants.{Pol, Rup, Del}
+use Rattle.proof_lines.specs.declared.line.Line.TheVariants.{Rup}
 use Rattle.proof_rules.specs.Refusals.{Refusal, NotImplied, TooBig}
-use Rattle.proof_rules.specs.Pol.{pol_row}
-use Rattle.proof_rules.specs.States.{State, after, deleted, if_known, literals_in, live_rows, rup_row, with_row}
-use Rattle.proof_rules.specs.Valid.{Moves, Proving}
+use Rattle.proof_rules.specs.States.{after, if_known, literals_in, live_rows, rup_row, with_row}
+use Rattle.proof_rules.specs.Valid.{Proving}
 use Rattle.proof_rules.specs.Refused.{Refuses}
 use Rattle.proof_checker.specs.declared.fault.Fault.{Fault}
 use Rattle.proof_checker.specs.Faults.{Answers, Halts}
-use Rattle.proof_checker.specs.Kept.{Kept, Steps, with_new_row, with_rows}
+use Rattle.proof_checker.specs.Kept.{Kept, Steps, with_new_row}
 use Rattle.proof_checker.specs.Tests.{known_terms}
 use Rattle.proof_checker.proofs.Halting.{halts-as, step-leads, step-stops, then-leads, then-stops}
 use Rattle.proof_checker.proofs.Passing.{above, known-passes, known-stops}
-use Rattle.proof_checker.proofs.Covering.{rup-over}
 
 module _ (f : Formula) (old : Kept) where
   -- ---- `rup`

@@ -1,11 +1,10 @@
 -- What a refusal of the code says of the rules' answer, and of the line.
-use Rattle.std.proofs.Common.{◌≡◌, ◌⊎◌, inl, inr, refl, sym, ap, ◌∙◌}
+use Rattle.std.proofs.Common.{◌≡◌, inl, ap}
 use Rattle.std.specs.Prelude.{Option, Some, None, Result, Ok, Err, IfSome}
 use Rattle.pb_rows.specs.Formula.{Formula}
 use Rattle.proof_lines.specs.declared.line.Line.{Line}
-use Rattle.proof_lines.specs.declared.line.Line.TheVariants.{Pol, Rup, Soli, Del}
 use Rattle.proof_rules.specs.Refusals.{Refusal, and_then}
-use Rattle.proof_rules.specs.States.{State, after}
+use Rattle.proof_rules.specs.States.{State}
 use Rattle.proof_rules.specs.Valid.{Place, Proving, next_place}
 use Rattle.proof_rules.specs.Refused.{Refuses}
 use Rattle.proof_checker.specs.declared.fault.Fault.{Fault}

@@ -1,5 +1,5 @@
 -- The verdict on the bytes of a checker is that on the texts it stands for.
-use Rattle.std.proofs.Common.{◌≡◌, ◌↔◌, List, ℕ, ◌⊎◌, inl, inr, refl, sym, ap, ◌∙◌}
+use Rattle.std.proofs.Common.{◌≡◌, ◌↔◌, List, ℕ, ◌⊎◌, inl, inr, refl, ap}
 use Rattle.std.specs.Prelude.{IfSome, Option, Some, None, Result, Ok, Err}
 use Rattle.pb_rows.specs.Formula.{Formula}
 use Rattle.proof_lines.specs.declared.line.Claim.{Claim}

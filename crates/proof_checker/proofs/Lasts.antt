@@ -1,16 +1,15 @@
 -- The bytes behind the last line feed.
-use Rattle.std.proofs.Common.{◌≡◌, ℕ, ◌==◌, Bool, true, false, List, [], ◌∷◌, length, if◌then◌else◌, inl, inr, refl, sym, ap, ◌∙◌, subst}
-use Rattle.std.specs.Prelude.{Option, Some, None, Result, Ok, Err}
+use Rattle.std.proofs.Common.{◌≡◌, ℕ, ◌==◌, true, false, List, [], ◌∷◌, length, inl, refl, ◌∙◌}
+use Rattle.std.specs.Prelude.{Option, Some, None, Result, Ok}
 use Rattle.pb_rows.specs.Formula.{Formula}
 use Rattle.proof_lines.specs.declared.line.Claim.{Claim}
 use Rattle.proof_lines.specs.declared.line.Line.{Line}
-use Rattle.proof_lines.specs.declared.line.Line.TheVariants.{Header, Count, Pol, Rup, Soli, Del, Output, Conclusion, End, Comment, Blank}
+use Rattle.proof_lines.specs.declared.line.Line.TheVariants.{Header, Count, Output, Conclusion, End, Comment, Blank}
 use Rattle.proof_lines.specs.FirstLine.{is_blank, is_blank_text, is_end, is_end_text}
 use Rattle.proof_lines.specs.Spelling.{is_small_claim, read_line}
 use Rattle.proof_rules.specs.Refusals.{Refusal, Syntax, and_then}
 use Rattle.proof_rules.specs.States.{State, after, first_state}
-use Rattle.proof_rules.specs.Valid.{Claimed, Closing, Done, Headed, Moves, Place, Proving, Start, next_place}
-use Rattle.proof_rules.specs.Refused.{Refuses}
+use Rattle.proof_rules.specs.Valid.{Claimed, Closing, Done, Headed, Place, Proving, Start, next_place}
 use Rattle.proof_rules.specs.Texts.{Reaches, Stops, last_line}
 use Rattle.proof_rules.proofs.Made.{made_if, made_then}
 use Rattle.proof_checker.specs.declared.stage.Stage.{Stage}

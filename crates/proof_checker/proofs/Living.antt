@@ -1,5 +1,5 @@
 -- What the rows of a state keep.
-use Rattle.std.proofs.Common.{◌≡◌, ℕ, suc, ◌+◌, ◌<◌, ◌≤◌, ◌==◌, Bool, true, false, List, [], ◌∷◌, ◌++◌, if◌then◌else◌, length, drop, get_or, take, refl, sym, ap, ◌∙◌, subst, add-one, arith, append_assoc, drop-cons}
+use Rattle.std.proofs.Common.{◌≡◌, ℕ, ◌+◌, ◌<◌, ◌≤◌, ◌==◌, false, List, [], ◌∷◌, ◌++◌, if◌then◌else◌, length, drop, get_or, refl, sym, ap, ◌∙◌, subst, add-one, arith, append_assoc, drop-cons}
 use Rattle.std.specs.Prelude.{Err, None}
 use Rattle.std.specs.List.{All}
 use Rattle.std.proofs.lemmas.Bool.{ne_eqb}

@@ -1,9 +1,8 @@
 -- The lines of a proof, one after another, up to its verdict.
-use Rattle.std.proofs.Common.{◌≡◌, ℕ, ◌+◌, ◌-◌, ◌<◌, ◌≤◌, ◌^◌, List, [], ◌∷◌, ◌++◌, length, map, take, drop, inl, inr, refl, sym, ap, ap₂, ◌∙◌, subst, arith, append_assoc, append-nil, length-append, length-drop}
-use Rattle.std.specs.Prelude.{Option, Some, None, Result, Ok, Err, IfOk, IfSome}
+use Rattle.std.proofs.Common.{◌≡◌, ℕ, ◌+◌, ◌-◌, ◌<◌, ◌≤◌, List, [], ◌∷◌, ◌++◌, length, map, take, drop, inl, inr, refl, sym, ap, ap₂, ◌∙◌, subst, arith, append_assoc, append-nil, length-append, length-drop}
+use Rattle.std.specs.Prelude.{Some, Result, Ok, Err, IfOk, IfSome}
 use Rattle.std.proofs.lemmas.List.{take_all}
 use Rattle.pb_rows.specs.Formula.{Formula}
-use Rattle.opb_text.specs.Limits.{IsWithinLimits}
 use Rattle.proof_lines.specs.declared.line.Claim.{Claim}
 use Rattle.proof_lines.specs.declared.line.Line.{Line}
 use Rattle.proof_lines.specs.Spelling.{read_line}
@@ -22,7 +21,7 @@ use Rattle.proof_checker.specs.declared.refusal.ProofRefusal.{ProofRefusal}
 use Rattle.proof_checker.specs.declared.refusal.ProofRefusal.TheVariants as refusal
 use Rattle.proof_checker.specs.declared.stage.Stage.{Stage}
 use Rattle.proof_checker.specs.declared.stage.Stage.TheVariants as stage
-use Rattle.proof_checker.specs.Answers.{refusal_verdict, refused_at, verdict_of}
+use Rattle.proof_checker.specs.Answers.{refusal_verdict, verdict_of}
 use Rattle.proof_checker.specs.Faults.{at_line}
 use Rattle.proof_checker.specs.Places.{IsSoundAt, place_of}
 use Rattle.proof_checker.specs.Endings.{EndsEarly, EndsWith, EndsWrong, IsPassed, StopsFirst}

@@ -1,17 +1,14 @@
 -- Tests of the rules that pass, one item after another.
-use Rattle.std.proofs.Common.{◌≡◌, ℕ, ◌+◌, ◌<◌, ◌≤◌, Bool, true, false, nat_le, List, [], ◌∷◌, if◌then◌else◌, length, drop, get_or, refl, sym, ap, ◌∙◌, arith}
+use Rattle.std.proofs.Common.{◌≡◌, ℕ, ◌+◌, ◌<◌, Bool, true, false, nat_le, List, [], ◌∷◌, if◌then◌else◌, refl, arith}
 use Rattle.std.specs.Prelude.{Result, Ok, Err}
-use Rattle.std.proofs.lemmas.Bool.{le-leb}
 use Rattle.std.proofs.lemmas.Bool.Decides.{nat_tests}
 use Rattle.hrt_base.specs.declared.literal.Lit.{Lit}
-use Rattle.hrt_base.specs.declared.literal.Term.{Term}
 use Rattle.pb_rows.specs.Terms.{PlainRow}
 use Rattle.pb_rows.specs.Points.{Point}
 use Rattle.pb_rows.specs.Rows.{holds}
 use Rattle.proof_rules.specs.Refusals.{Refusal, BadVariable, NotASolution}
-use Rattle.proof_rules.specs.States.{if_hold, if_known, literals_in}
-use Rattle.proof_checker.specs.Tests.{holding_rows, known_literals, known_terms}
-use Rattle.proof_checker.proofs.Living.{drop-at}
+use Rattle.proof_rules.specs.States.{if_hold, if_known}
+use Rattle.proof_checker.specs.Tests.{known_literals}
 
 abbrev Nothing : Type 0
 Nothing = Result (Unit {0}) Refusal

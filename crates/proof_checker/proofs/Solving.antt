@@ -1,16 +1,14 @@
 -- What a solution line makes of a state.
-use Rattle.std.proofs.Common.{◌≡◌, ℕ, ◌+◌, Bool, true, false, List, [], ◌∷◌, length, if◌then◌else◌, ℤ, pos, ◌-ℤ◌, inl, refl, sym, ap, ap₂, ◌∙◌, subst, arith}
+use Rattle.std.proofs.Common.{◌≡◌, ℕ, Bool, false, List, if◌then◌else◌, ℤ, pos, ◌-ℤ◌, inl, refl, sym, ap, ap₂, ◌∙◌, subst, arith}
 use Rattle.std.specs.Prelude.{Some, Result, Ok, Err}
-use Rattle.std.specs.List.{All}
 use Rattle.hrt_base.specs.declared.literal.Lit.{Lit}
-use Rattle.hrt_base.specs.declared.literal.Term.{Term}
 use Rattle.pb_rows.specs.Terms.{PlainRow}
-use Rattle.pb_rows.specs.Points.{IsCovered, Point, point_of, value_at}
+use Rattle.pb_rows.specs.Points.{IsCovered, point_of, value_at}
 use Rattle.pb_rows.specs.Formula.{Formula}
 use Rattle.opb_text.specs.Limits.{IsWithinLimits}
 use Rattle.proof_lines.specs.declared.line.Line.TheVariants.{Soli}
 use Rattle.proof_rules.specs.Refusals.{Refusal, NotFull}
-use Rattle.proof_rules.specs.States.{State, after, at_most_row, if_hold, if_known, is_full, logged, named_point, smaller, with_row}
+use Rattle.proof_rules.specs.States.{State, after, at_most_row, if_hold, is_full, logged, named_point, smaller, with_row}
 use Rattle.proof_rules.specs.Valid.{Moves, Proving}
 use Rattle.proof_rules.specs.Refused.{Refuses}
 use Rattle.proof_checker.specs.declared.fault.Fault.{Fault}

@@ -1,5 +1,5 @@
 -- Why a line is no step, in the code and in the rules.
-use Rattle.std.specs.Prelude.{◌≡◌, ℕ, Option, Some, None, Result, Ok, Err, IfSome}
+use Rattle.std.specs.Prelude.{◌≡◌, ℕ, Option, Some, None, Result, Err, IfSome}
 use Rattle.pb_rows.specs.Formula.{Formula}
 use Rattle.proof_lines.specs.declared.line.Line.{Line}
 use Rattle.proof_steps.specs.declared.refusal.StepRefusal.{StepRefusal}

@@ -1,5 +1,5 @@
 -- The states that the code keeps.
-use Rattle.std.specs.Prelude.{◌≡◌, ◌≤◌, ◌+◌, ℕ, ℤ, List, Option, Some}
+use Rattle.std.specs.Prelude.{◌≡◌, ◌≤◌, ◌+◌, ℕ, ℤ, List, Some}
 use Rattle.std.specs.List.{All}
 use Rattle.pb_rows.specs.Terms.{PlainRow}
 use Rattle.pb_rows.specs.Formula.{Formula, NumberedRow}

@@ -7,7 +7,7 @@ use Rattle.proof_rules.specs.Refusals.{RefusalAt}
 use Rattle.proof_rules.specs.Valid.{Place, Start}
 use Rattle.proof_rules.specs.Texts.{Reaches, Stops, cut, whole_lines}
 use Rattle.proof_checker.specs.declared.phase.Phase.{Phase}
-use Rattle.proof_checker.specs.declared.phase.Phase.TheVariants.{Reading, OutOfMemory, Finished}
+use Rattle.proof_checker.specs.declared.phase.Phase.TheVariants.{Reading, Finished}
 
 -- The formula, all bytes that were fed, and what the checker does next.
 pub record Checked : Type 0 where

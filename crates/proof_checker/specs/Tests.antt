@@ -1,6 +1,5 @@
 -- Tests of the rules, with an answer that carries nothing.
 use Rattle.std.specs.Prelude.{◌≡◌, ℕ, ℤ, ◌-◌, ◌==◌, Bool, true, List, length, count_by, slice_index_or, Option, Some, None, Result, Ok}
-use Rattle.std.specs.List.{All}
 use Rattle.hrt_base.specs.declared.literal.Lit.{Lit}
 use Rattle.hrt_base.specs.declared.literal.Term.{Term}
 use Rattle.pb_rows.specs.Terms.{PlainRow}

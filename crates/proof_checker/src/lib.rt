@@ -12,6 +12,8 @@ mod solution;
 mod stage;
 mod state;
 mod steps;
+#[cfg(test)]
+mod tests;
 
 pub use checker::Checker;
 pub use refusal::ProofRefusal;

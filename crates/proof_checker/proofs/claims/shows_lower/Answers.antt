@@ -1,5 +1,5 @@
 use mir.Val.{of_z, to_z}
-use Rattle.std.proofs.Common.{◌≡◌, ◌≤◌, ◌<◌, ◌^◌, ◌<ℤ◌, ◌↔◌, ◌⊎◌, ℤ, pos, Bool, List, true, sym, ap, ap₂, ◌∙◌, subst}
+use Rattle.std.proofs.Common.{◌≡◌, ◌<◌, ◌^◌, ◌<ℤ◌, ◌↔◌, ◌⊎◌, ℤ, pos, List, true, sym, ap, ap₂, ◌∙◌, subst}
 use Rattle.std.specs.Prelude.{Option}
 use Rattle.std.specs.Int.{w128}
 use Rattle.std.specs.List.{All}
@@ -9,7 +9,7 @@ use Rattle.hrt_base.specs.declared.literal.Term.{Term}
 use Rattle.pb_rows.specs.Points.{IsCovered}
 use Rattle.pb_rows.specs.Normal.{all_sizes, normal_form}
 use Rattle.pb_rows.specs.Formula.{Formula}
-use Rattle.proof_rules.specs.Claims.{IsUnpassed, ShowsNone, at_least_row}
+use Rattle.proof_rules.specs.Claims.{IsUnpassed, ShowsNone}
 use Rattle.proof_checker.proofs.Covering.{at_least-over}
 use Rattle.proof_checker.proofs.Showing.{far_shown, row_shown}
 use Rattle.proof_checker.proofs.claims.shows_lower.Goals as goal

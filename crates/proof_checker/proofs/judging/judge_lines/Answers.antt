@@ -1,9 +1,9 @@
-use Rattle.std.proofs.Common.{◌≡◌, ◌+◌, List, ℕ, sym, ap, ◌∙◌, subst, arith}
-use Rattle.std.specs.Prelude.{IfSome, Option}
+use Rattle.std.proofs.Common.{sym, subst, arith}
+use Rattle.std.specs.Prelude.{IfSome}
 use Rattle.proof_rules.specs.Texts.{HasVerdict}
 use Rattle.proof_checker.specs.declared.refusal.ProofRefusal.{ProofRefusal}
 use Rattle.proof_checker.specs.Answers.{refusal_verdict}
-use Rattle.proof_checker.specs.Endings.{Takes, TakesLine}
+use Rattle.proof_checker.specs.Endings.{TakesLine}
 use Rattle.proof_checker.specs.Places.{place_of}
 use Rattle.proof_checker.proofs.Passed.{ended, ended-sound, halted, passed-on, passed-sound, to-end}
 use Rattle.proof_checker.proofs.judging.judge_lines.Goals as goal

@@ -1,9 +1,6 @@
-use Rattle.std.proofs.Common.{◌≡◌, List, ◌∷◌, ap, sym, ◌∙◌, subst, refl}
-use Rattle.std.specs.Prelude.{Some, None, Ok, Err}
+use Rattle.std.proofs.Common.{ap, ◌∙◌}
+use Rattle.std.specs.Prelude.{Ok}
 use Rattle.std.proofs.lemmas.Result.{err_from_is_err_and}
-use Rattle.proof_lines.specs.FirstLine.{first_line}
-use Rattle.proof_rules.specs.Texts.{Reading, Stops}
-use Rattle.proof_rules.specs.Refusals.{Syntax}
 use Rattle.proof_checker.proofs.Cutting.{first-none, first-taken}
 use Rattle.proof_checker.proofs.judging.take_line.Goals as goal
 

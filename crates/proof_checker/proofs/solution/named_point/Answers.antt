@@ -1,4 +1,4 @@
-use Rattle.std.proofs.Common.{sym, ◌∙◌, subst, List, Bool, Contains}
+use Rattle.std.proofs.Common.{◌∙◌, subst, List, Bool, Contains}
 use Rattle.std.specs.Prelude.{Option, None}
 use Rattle.std.proofs.lemmas.Result.{err_from_is_err_and}
 use Rattle.proof_checker.specs.Faults.{reason_of}

@@ -1,11 +1,9 @@
-use Rattle.std.proofs.Common.{◌≡◌, ◌+◌, ◌++◌, List, [], ◌∷◌, drop, take, sym, ap, ◌∙◌, subst, arith, add-one, append-nil}
+use Rattle.std.proofs.Common.{take, sym, ◌∙◌, subst, arith}
 use Rattle.std.specs.List.{All}
 use Rattle.std.proofs.lemmas.List.{take_all, take_more}
 use Rattle.std.proofs.lemmas.List.Elements.{All-push}
 use Rattle.pb_rows.specs.Terms.{IsRisingFrom, PlainRow}
-use Rattle.pb_rows.specs.Formula.{NumberedRow, numbered_from}
-use Rattle.rup_engine.specs.Live.{IsOver, LiveRows}
-use Rattle.proof_rules.specs.States.{AreNumbered}
+use Rattle.rup_engine.specs.Live.{IsOver}
 use Rattle.proof_rules.proofs.Numbers.{numbered-push}
 use Rattle.proof_checker.proofs.Living.{fresh, numbered-on}
 use Rattle.proof_checker.proofs.state.first_rows.Goals as goal

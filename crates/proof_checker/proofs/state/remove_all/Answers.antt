@@ -1,6 +1,5 @@
-use Rattle.std.proofs.Common.{◌≡◌, sym, ◌∙◌, ap, true, false, rules}
+use Rattle.std.proofs.Common.{sym, ◌∙◌}
 use Rattle.hrt_base.specs.declared.numbered.RowNo.{RowNo}
-use Rattle.pb_rows.specs.Formula.{is_numbered}
 use Rattle.proof_checker.proofs.Living.{deleted-here, kept-without}
 use Rattle.proof_checker.proofs.state.remove_all.Goals as goal
 

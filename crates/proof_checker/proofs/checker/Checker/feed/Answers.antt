@@ -1,4 +1,4 @@
-use Rattle.std.proofs.Common.{◌≡◌, List, ℕ, ◌++◌, ap, ◌∙◌}
+use Rattle.std.proofs.Common.{List, ℕ, ◌++◌, ap, ◌∙◌}
 use Rattle.proof_checker.specs.Standing.{Checked}
 use Rattle.proof_checker.proofs.Carrying.{stands-fed}
 use Rattle.proof_checker.proofs.checker.Checker.feed.Goals as goal

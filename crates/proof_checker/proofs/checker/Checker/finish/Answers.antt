@@ -1,4 +1,3 @@
-use Rattle.std.proofs.Common.{◌≡◌, ◌+◌}
 use Rattle.proof_checker.proofs.Judged.{stands-judged}
 use Rattle.proof_checker.proofs.checker.Checker.finish.Goals as goal
 

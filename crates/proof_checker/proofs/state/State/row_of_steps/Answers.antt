@@ -1,4 +1,4 @@
-use Rattle.std.proofs.Common.{sym, subst, ap, ◌∙◌, ℕ}
+use Rattle.std.proofs.Common.{subst, ℕ}
 use Rattle.std.specs.List.{All}
 use Rattle.rup_engine.specs.Live.{IsOver}
 use Rattle.proof_rules.specs.States.{live_rows}

@@ -1,14 +1,13 @@
 -- Rows of at most so many: how many of their variables a quiet set makes true.
-use Rattle.std.proofs.Common.{◌≡◌, ℕ, zero, suc, ◌+◌, ◌-◌, ◌<◌, ◌≤◌, Bool, true, false, not, ◌&&◌, ◌==◌, List, [], ◌∷◌, ◌++◌, if◌then◌else◌, filter, sum_by, count_by, ℤ, pos, negsuc, Contains, refl, sym, ap, ap₂, ◌∙◌, subst, inl, inr, arith}
-use Rattle.std.proofs.lemmas.Bool.{and_from, cases_Bool, eqb-true, true≢false, false_from_ne_true, eq-eqb}
+use Rattle.std.proofs.Common.{◌≡◌, ℕ, zero, suc, ◌+◌, ◌-◌, ◌≤◌, Bool, true, false, ◌&&◌, ◌==◌, List, if◌then◌else◌, filter, sum_by, count_by, ℤ, pos, negsuc, refl, sym, ap, ◌∙◌, subst, arith}
+use Rattle.std.proofs.lemmas.Bool.{and_from, eqb-true, true≢false}
 use Rattle.std.proofs.lemmas.List.Sums.{sum_by_push}
-use Rattle.pb_rows.specs.Terms.{PlainRow, weighing}
 use Rattle.pb_rows.specs.Normal.{negative_part}
 use Rattle.pb_rows.specs.Rows.{in_normal_form}
 use Rattle.pb_rows.specs.Closure.{Keeps, Literals}
-use Rattle.pb_rows.proofs.Coefs.{coef_row, coef_terms, lit, minus_sum, open_share, sum_below, sum_below-add, sum_below-le, sum_below-less, sum_below-one, term_in}
+use Rattle.pb_rows.proofs.Coefs.{coef_row, lit, minus_sum, open_share, sum_below, sum_below-add, sum_below-le, sum_below-less, sum_below-one, term_in}
 use Rattle.rank_tables.specs.Numbers.{is_in, numbers_to}
-use Rattle.rank_tables.proofs.Numbers.{is_in-filter, is_in-numbers_to}
+use Rattle.rank_tables.proofs.Numbers.{is_in-numbers_to}
 use Rattle.stability_model.specs.Model.{at_most}
 use Rattle.stability_model.proofs.CoefRows.{at_most-row, coefs_over, filtered_within, minus_one}
 use Rattle.stability_model.proofs.GoneLocal.{count_same_in}

@@ -1,26 +1,23 @@
 -- Rows that were made for a while are forgotten.
-use Rattle.std.proofs.Common.{◌≡◌, ℕ, zero, suc, ◌+◌, ◌-◌, ◌*◌, ◌<◌, ◌≤◌, ◌^◌, Bool, true, false, not, ◌&&◌, ◌==◌, List, [], ◌∷◌, ◌++◌, nat_le, if◌then◌else◌, length, map, cond, refl, sym, ap, ap₂, ◌∙◌, subst, inl, inr, arith}
-use Rattle.std.specs.Prelude.{Option, Some, None, Result, Ok, Err, IsOk, is_ok, codes, decimal, slice_set, slice_get}
+use Rattle.std.proofs.Common.{◌≡◌, ℕ, zero, suc, ◌-◌, ◌*◌, ◌<◌, ◌≤◌, ◌^◌, Bool, true, false, not, ◌||◌, ◌==◌, List, [], ◌∷◌, ◌++◌, nat_le, if◌then◌else◌, length, map, cond, refl, sym, ap, ◌∙◌, inl, inr, arith}
+use Rattle.std.specs.Prelude.{Option, Some, Result, Ok, Err, IsOk, is_ok, codes, decimal}
 use Rattle.std.specs.List.{list_all}
-use Rattle.std.proofs.lemmas.Bool.{and_from, and_parts, cases_Bool, eq-eqb, eqb-true, false_from_ne_true, le-leb, not-true, or_parts, or_left, or_right, true≢false}
+use Rattle.std.proofs.lemmas.Bool.{and_from, and_parts, eq-eqb, eqb-true, false_from_ne_true, le-leb, not-true, or_cases, or_parts, or_left, or_right, true≢false}
 use Rattle.std.proofs.lemmas.Fmt.{length-decimal-le}
 use Rattle.std.proofs.lemmas.List.{length-append}
-use Rattle.std.proofs.lemmas.Option.{slice_get-get_or}
 use Rattle.hrt_base.specs.declared.numbered.RowNo.{RowNo}
 use Rattle.pb_rows.specs.Terms.{PlainRow}
 use Rattle.pb_rows.specs.Formula.{NumberedRow, is_numbered, row_of, without}
 use Rattle.row_text.specs.Tokens.{spaced}
 use Rattle.rank_tables.specs.Numbers.{is_distinct, is_in}
 use Rattle.proof_lines.specs.declared.line.Line.TheVariants.{Del}
-use Rattle.proof_lines.specs.Spelling.{row_no}
-use Rattle.proof_lines.specs.Texts.{id_text, is_made_id, is_some_of}
+use Rattle.proof_lines.specs.Texts.{id_text, is_made_id, is_some_of, line_text}
 use Rattle.proof_rules.specs.Refusals.{BadId, Refusal, and_then}
 use Rattle.proof_rules.specs.Held.{row_numbers}
-use Rattle.proof_rules.specs.States.{AreNumbered, IsInOrder, State, deleted}
+use Rattle.proof_rules.specs.States.{IsInOrder, State, deleted}
 use Rattle.proof_rules.proofs.HeldLive.{numbered-without}
 use Rattle.derivation.specs.Derived.{Derived}
 use Rattle.derivation.specs.Steps.{IsWritable, Takes}
-use Rattle.pair_reduction.specs.Reduced.{AreMade}
 use Rattle.pair_reduction.proofs.Offering.{numbered_row}
 use Rattle.pair_reduction.proofs.Writable.{live_within}
 
@@ -45,9 +42,25 @@ pub record Leaves (ids : List RowNo) (live : List NumberedRow) : Type 0 where
   pub left : List NumberedRow
   pub is : deleted ids live ≡ Ok left
   pub others : (n : ℕ) → is_in n (row_numbers ids) ≡ false → row_of n left ≡ row_of n live
+  pub only : (n : ℕ) → is_numbered n left ≡ true → (is_numbered n live ≡ true) × (is_in n (row_numbers ids) ≡ false)
+
+left_entry : (n k : ℕ) (b : Bool) (entry : NumberedRow) (live : List NumberedRow) → (entry.number == k) ≡ b → (is_numbered n (without k live) ≡ true → (is_numbered n live ≡ true) × ((k == n) ≡ false)) →
+    is_numbered n (cond (not b) (entry ∷ without k live) (without k live)) ≡ true → (is_numbered n (entry ∷ live) ≡ true) × ((k == n) ≡ false)
+left_entry n k true entry live e h i = let rest = h i in (or_right (entry.number == n) (is_numbered n live) rest.0, rest.1)
+left_entry n k false entry live e h i = elim (or_cases (entry.number == n) (is_numbered n (without k live)) i) [
+  | inl f ↦ (
+    or_left (entry.number == n) (is_numbered n live) f,
+    false_from_ne_true (k == n) (λ g. true≢false (sym (eq-eqb entry.number k (eqb-true entry.number n f ∙ sym (eqb-true k n g))) ∙ e)),
+  )
+  | inr f ↦ let rest = h f in (or_right (entry.number == n) (is_numbered n live) rest.0, rest.1)
+]
+
+left_of_one : (n k : ℕ) (live : List NumberedRow) → is_numbered n (without k live) ≡ true → (is_numbered n live ≡ true) × ((k == n) ≡ false)
+left_of_one n k [] i = absurd (true≢false (sym i))
+left_of_one n k (entry ∷ live) i = left_entry n k (entry.number == k) entry live refl (left_of_one n k live) i
 
 pub leaves : (ids : List RowNo) (live : List NumberedRow) → is_distinct (row_numbers ids) ≡ true → ((n : ℕ) → is_in n (row_numbers ids) ≡ true → is_numbered n live ≡ true) → Leaves ids live
-leaves [] live d h = record { left = live; is = refl; others = λ n i. refl }
+leaves [] live d h = record { left = live; is = refl; others = λ n i. refl; only = λ n i. (i, refl) }
 leaves (x ∷ ids) live d h =
     let parts = and_parts (not (is_in x.0 (row_numbers ids))) (is_distinct (row_numbers ids)) d in
     let apart : (n : ℕ) → is_in n (row_numbers ids) ≡ true → x.0 ≡ n → ⊥ =
@@ -59,6 +72,10 @@ leaves (x ∷ ids) live d h =
       others = λ n i.
           let two = or_parts (x.0 == n) (is_in n (row_numbers ids)) i in
           rest.others n two.1 ∙ row_without n x.0 live (λ e. true≢false (sym (eq-eqb x.0 n e) ∙ two.0));
+      only = λ n i.
+          let later = rest.only n i in
+          let here = left_of_one n x.0 live later.0 in
+          (here.0, ap (λ (b : Bool). b || is_in n (row_numbers ids)) here.1 ∙ later.1);
     }
 
 -- ---- the line
@@ -112,6 +129,8 @@ pub record Forgot (ids : List RowNo) (old new : Derived) : Type 0 where
   pub least : new.state.least ≡ old.state.least
   pub next : new.state.next ≡ old.state.next
   pub others : (n : ℕ) → is_in n (row_numbers ids) ≡ false → row_of n new.state.live ≡ row_of n old.state.live
+  pub only : (n : ℕ) → is_numbered n new.state.live ≡ true → (is_numbered n old.state.live ≡ true) × (is_in n (row_numbers ids) ≡ false)
+  pub pending : new.pending ≡ old.pending ++ line_text (Del ids)
 
 pub forgot : (ids : List RowNo) (old new : Derived) → CanForget ids old → Takes (Del ids) old new → Forgot ids old new
 forgot ids old new can taken =
@@ -125,6 +144,8 @@ forgot ids old new can taken =
       least = ap (λ (s : State). s.least) state;
       next = ap (λ (s : State). s.next) state;
       others = λ n i. ap (λ (s : State). row_of n s.live) state ∙ l.others n i;
+      only = λ n i. l.only n (ap (λ (s : State). is_numbered n s.live) (sym state) ∙ i);
+      pending = ap (λ (d : Derived). d.pending) taken.is;
     }
 
 pub some_there : (n m : ℕ) → n ≡ m → (n == 0) ≡ false → 0 < m

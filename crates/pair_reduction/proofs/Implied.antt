@@ -1,5 +1,5 @@
 -- What both rules show follows from the live rows.
-use Rattle.std.proofs.Common.{◌≡◌, ℕ, zero, suc, ◌+◌, ◌-◌, ◌<◌, ◌≤◌, Bool, true, false, ◌&&◌, ◌==◌, List, [], ◌∷◌, ◌++◌, nat_lt, if◌then◌else◌, length, filter, map, count_by, Contains, refl, sym, ap, ◌∙◌, subst, inl, inr, arith}
+use Rattle.std.proofs.Common.{◌≡◌, ℕ, ◌+◌, ◌<◌, Bool, true, false, ◌&&◌, ◌==◌, List, [], ◌∷◌, nat_lt, if◌then◌else◌, length, count_by, Contains, refl, sym, ap, ◌∙◌, arith}
 use Rattle.std.specs.Prelude.{Option, Some, None, IfSome, is_some}
 use Rattle.std.proofs.lemmas.Bool.{and_from, and_parts, eq-eqb, ltb-true}
 use Rattle.std.proofs.lemmas.List.Elements.{Contains-append_right}
@@ -8,8 +8,8 @@ use Rattle.pb_rows.specs.Terms.{PlainRow}
 use Rattle.pb_rows.specs.Rows.{in_normal_form}
 use Rattle.pb_rows.specs.Closure.{Implies}
 use Rattle.pb_rows.specs.Formula.{NumberedRow, row_of, rows_of}
-use Rattle.rank_tables.specs.Numbers.{below, is_in, numbers_to}
-use Rattle.rank_tables.specs.Instance.{Lists, capacity_of, pair_at, pair_count, pairs_of_hospital, pairs_of_resident, rank_by_hospital, rank_by_resident}
+use Rattle.rank_tables.specs.Numbers.{below, numbers_to}
+use Rattle.rank_tables.specs.Instance.{Lists, pair_at, pair_count, pairs_of_hospital, pairs_of_resident, rank_by_resident}
 use Rattle.rank_tables.specs.Tables.{IsPairNo}
 use Rattle.rank_tables.proofs.Numbers.{element, is_in-filter}
 use Rattle.stability_model.specs.Model.{hospital_has_pair, hospital_row, hospital_row_no, pair_row, pair_row_no, resident_has_pair, resident_row, resident_row_no, resident_rows}

@@ -1,3 +1,4 @@
+mod Added
 mod Quiet
 mod AtMost
 mod RuleA

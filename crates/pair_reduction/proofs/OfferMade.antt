@@ -1,14 +1,13 @@
 -- What the call that makes an offer's row asks for, and what it does.
-use Rattle.std.proofs.Common.{◌≡◌, ℕ, zero, suc, ◌+◌, ◌-◌, ◌*◌, ◌<◌, ◌≤◌, ◌^◌, Bool, true, false, ◌==◌, take, List, [], ◌∷◌, ◌++◌, if◌then◌else◌, length, filter, count_by, refl, sym, ap, ap₂, ◌∙◌, subst, inl, inr, arith}
-use Rattle.std.specs.Prelude.{flat_map, Option, Some, None, Result, Ok, Err, slice_get, IfSome}
+use Rattle.std.proofs.Common.{◌≡◌, ℕ, ◌+◌, ◌-◌, ◌*◌, ◌<◌, ◌≤◌, ◌^◌, Bool, true, ◌==◌, take, List, [], ◌∷◌, ◌++◌, if◌then◌else◌, length, count_by, refl, sym, ap, ap₂, ◌∙◌, subst, inl, inr, arith}
+use Rattle.std.specs.Prelude.{flat_map, Option, Some, None, Result, Ok, Err, slice_get}
 use Rattle.std.proofs.lemmas.Bool.{and_from, eq-eqb}
 use Rattle.std.proofs.lemmas.Option.{slice_get_within}
 use Rattle.std.proofs.lemmas.List.{take_all}
 use Rattle.std.proofs.lemmas.List.Sums.{count_by-le-length, length-filter}
-use Rattle.hrt_base.specs.declared.numbered.RowNo.{RowNo}
 use Rattle.pb_rows.specs.Terms.{PlainRow, Written}
 use Rattle.pb_rows.specs.Rows.{in_normal_form}
-use Rattle.pb_rows.specs.Formula.{NumberedRow, row_of}
+use Rattle.pb_rows.specs.Formula.{row_of}
 use Rattle.rank_tables.specs.Numbers.{below, is_in, numbers_to}
 use Rattle.rank_tables.specs.Instance.{Lists, capacity_of, pair_at, pair_count, pairs_of_hospital, pairs_of_resident}
 use Rattle.hrt_base.specs.declared.numbered.PairNo.{PairNo}
@@ -16,7 +15,7 @@ use Rattle.rank_tables.specs.Tables.{IsPairNo, numbers_of}
 use Rattle.rank_tables.specs.WellFormed.{IsWellFormed}
 use Rattle.rank_tables.proofs.Below.{length-numbers_to}
 use Rattle.rank_tables.proofs.Numbers.{is_in-filter}
-use Rattle.stability_model.specs.Model.{IsRow, has_any, hospital_has_pair, hospital_row, hospital_row_no, hospital_rows, pair_row, pair_row_no, resident_rows, rows}
+use Rattle.stability_model.specs.Model.{IsRow, has_any, hospital_has_pair, hospital_row, hospital_row_no, pair_row, pair_row_no, resident_rows, rows}
 use Rattle.stability_model.specs.Gone.{has_only}
 use Rattle.stability_model.proofs.PairNumbers.{is_pair, pair_listed}
 use Rattle.stability_model.proofs.Places.{names_hospital_row}
@@ -35,7 +34,7 @@ use Rattle.derivation.specs.Steps.{IsRowOrTooBig, IsWritable, Takes, with_new_ro
 use Rattle.pair_reduction.specs.Offers.{before_steps, is_before, offer_row, offer_steps, row_steps}
 use Rattle.pair_reduction.proofs.OfferRow.{offer_made}
 use Rattle.pair_reduction.proofs.OfferRun.{TooBigOr}
-use Rattle.pair_reduction.proofs.Writable.{AreGood, each_good, good_append, good_less, good_writable, live_good}
+use Rattle.pair_reduction.proofs.Writable.{AreGood, each_good, good_append, good_writable, live_good}
 
 -- ---- live rows of the model
 

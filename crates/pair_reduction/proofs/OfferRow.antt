@@ -1,9 +1,9 @@
 -- The line of an offer makes its row.
-use Rattle.std.proofs.Common.{◌≡◌, ℕ, zero, suc, ◌+◌, ◌-◌, ◌<◌, ◌≤◌, ◌^◌, Bool, true, false, not, ◌&&◌, ◌||◌, ◌==◌, List, [], ◌∷◌, ◌++◌, nat_lt, nat_le, if◌then◌else◌, filter, count_by, length, ℤ, pos, negsuc, neg_ℤ, ◌+ℤ◌, refl, sym, ap, ap₂, ◌∙◌, subst, inl, inr, arith}
+use Rattle.std.proofs.Common.{◌≡◌, ℕ, suc, ◌+◌, ◌-◌, ◌≤◌, Bool, true, false, not, ◌&&◌, ◌||◌, ◌==◌, List, [], ◌∷◌, ◌++◌, nat_lt, nat_le, if◌then◌else◌, length, ℤ, pos, negsuc, ◌+ℤ◌, refl, sym, ap, ap₂, ◌∙◌, subst, inl, inr, arith}
 use Rattle.std.specs.Prelude.{flat_map, Option, Some, None, Result, Ok, Err, is_some, IfSome}
 use Rattle.std.specs.List.{list_all}
 use Rattle.std.proofs.lemmas.Int.{ints}
-use Rattle.std.proofs.lemmas.Bool.{and_from, and_parts, cases_Bool, eq-eqb, eqb-true, leb-true, ne_eqb, true≢false, not-true, le-ltb}
+use Rattle.std.proofs.lemmas.Bool.{and_from, and_parts, eq-eqb, eqb-true, leb-true, true≢false, not-true, le-ltb}
 use Rattle.std.proofs.lemmas.List.Sums.{length-filter}
 use Rattle.std.proofs.lemmas.Bool.Decides.{nat_tests}
 use Rattle.hrt_base.specs.declared.numbered.RowNo.{RowNo}
@@ -11,8 +11,8 @@ use Rattle.pb_rows.specs.Terms.{PlainRow}
 use Rattle.pb_rows.specs.Normal.{negative_part}
 use Rattle.pb_rows.specs.Rows.{add, in_normal_form}
 use Rattle.pb_rows.specs.Formula.{NumberedRow, row_of}
-use Rattle.pb_rows.proofs.Coefs.{HasNets, add-coefs, coef_row, coefs-nets, minus_sum, sum_below, sum_below-same}
-use Rattle.rank_tables.specs.Numbers.{is_distinct, is_in, numbers_to}
+use Rattle.pb_rows.proofs.Coefs.{add-coefs, coef_row, coefs-nets, minus_sum, sum_below-same}
+use Rattle.rank_tables.specs.Numbers.{is_in, numbers_to}
 use Rattle.rank_tables.specs.Instance.{Lists, capacity_of, pair_at, pair_count, pairs_of_hospital, pairs_of_resident, rank_by_hospital, rank_by_resident}
 use Rattle.rank_tables.specs.Tables.{IsPairNo}
 use Rattle.rank_tables.specs.WellFormed.{IsWellFormed}
@@ -23,12 +23,12 @@ use Rattle.stability_model.specs.Gone.{has_only}
 use Rattle.stability_model.proofs.CoefRows.{at_most-row, coefs_over, minus_one, none_negative, pair_coefs, pair_row-coefs}
 use Rattle.stability_model.proofs.PairNumbers.{is_pair, listed_pair, pair_listed, pair_of_resident}
 use Rattle.proof_lines.specs.declared.line.PolStep.{PolStep}
-use Rattle.proof_lines.specs.declared.line.PolStep.TheVariants.{Id, Times, Add}
+use Rattle.proof_lines.specs.declared.line.PolStep.TheVariants.{Id, Add}
 use Rattle.proof_lines.specs.Spelling.{is_small_step, row_no}
 use Rattle.proof_rules.specs.Refusals.{Refusal, TooBig, and_then}
 use Rattle.proof_rules.specs.Pol.{fits, only_row, pol_row, run_steps}
 use Rattle.derivation.specs.Deletions.{AreUnitRows, Deletions, is_deleted, unit_of, unit_row}
-use Rattle.pair_reduction.specs.Offers.{offer_steps, row_steps, before_steps, is_before, is_lower, offer_coef, offer_row}
+use Rattle.pair_reduction.specs.Offers.{offer_steps, row_steps, before_steps, is_before, offer_row}
 use Rattle.pair_reduction.proofs.AtMost.{counted_below}
 use Rattle.pair_reduction.proofs.OfferRun.{Clears, TooBigOr, all_run, cleared, cleared-is, id_run, passed_on, pushed}
 use Rattle.pair_reduction.proofs.RuleB.{offer_coefs, offer_row-coefs}

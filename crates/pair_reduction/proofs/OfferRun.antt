@@ -1,21 +1,19 @@
 -- What the steps of an offer's line leave on the stack: its row, or a row that is too big.
-use Rattle.std.proofs.Common.{◌≡◌, ℕ, zero, suc, ◌+◌, ◌-◌, ◌*◌, ◌<◌, ◌≤◌, Bool, true, false, not, ◌&&◌, ◌||◌, ◌==◌, List, [], ◌∷◌, ◌++◌, nat_lt, nat_le, if◌then◌else◌, filter, count_by, ℤ, pos, negsuc, neg_ℤ, ◌+ℤ◌, refl, sym, ap, ap₂, ◌∙◌, subst, ◌⊎◌, inl, inr, arith, append_assoc}
-use Rattle.std.specs.Prelude.{flat_map, Option, Some, None, Result, Ok, Err}
-use Rattle.std.specs.List.{list_all}
+use Rattle.std.proofs.Common.{◌≡◌, ℕ, zero, suc, ◌*◌, ◌<◌, Bool, true, false, not, ◌&&◌, ◌||◌, ◌==◌, List, [], ◌∷◌, ◌++◌, if◌then◌else◌, ℤ, pos, neg_ℤ, ◌+ℤ◌, refl, sym, ap, ◌∙◌, ◌⊎◌, inl, inr, arith, append_assoc}
+use Rattle.std.specs.Prelude.{flat_map, Option, Some, Result, Ok, Err}
 use Rattle.std.proofs.lemmas.Int.{ints}
 use Rattle.std.proofs.lemmas.Bool.{and_parts, cases_Bool, eq-eqb, eqb-true, ne_eqb, true≢false, or_left, or_right, not-true}
 use Rattle.hrt_base.specs.declared.numbered.RowNo.{RowNo}
-use Rattle.hrt_base.specs.declared.literal.Term.{Term}
-use Rattle.pb_rows.specs.Terms.{PlainRow, scaled, weighing}
-use Rattle.pb_rows.specs.Normal.{negative_part, net, on_opposites, var_bound}
-use Rattle.pb_rows.specs.Rows.{add, in_normal_form, times}
+use Rattle.pb_rows.specs.Terms.{PlainRow}
+use Rattle.pb_rows.specs.Normal.{negative_part}
+use Rattle.pb_rows.specs.Rows.{add, times}
 use Rattle.pb_rows.specs.Formula.{NumberedRow, row_of}
-use Rattle.pb_rows.proofs.Coefs.{HasNets, add-coefs, coef_row, coefs-nets, lit, minus_sum}
+use Rattle.pb_rows.proofs.Coefs.{HasNets, add-coefs, coef_row, minus_sum}
 use Rattle.rank_tables.specs.Numbers.{is_distinct, is_in}
 use Rattle.proof_lines.specs.declared.line.PolStep.{PolStep}
 use Rattle.proof_lines.specs.declared.line.PolStep.TheVariants.{Id, Times, Add}
 use Rattle.proof_rules.specs.Refusals.{Refusal, TooBig, and_then}
-use Rattle.proof_rules.specs.Pol.{fits, run_step, run_steps}
+use Rattle.proof_rules.specs.Pol.{fits, run_steps}
 use Rattle.derivation.specs.Deletions.{Deletions, unit_of, unit_row}
 use Rattle.pair_reduction.specs.Offers.{unit_steps}
 

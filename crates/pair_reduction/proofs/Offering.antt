@@ -1,19 +1,22 @@
 -- Offers one after another: the rows that are made.
-use Rattle.std.proofs.Common.{◌≡◌, ℕ, zero, suc, ◌+◌, ◌-◌, ◌<◌, ◌≤◌, ◌^◌, Bool, true, false, not, ◌&&◌, ◌||◌, ◌==◌, List, [], ◌∷◌, ◌++◌, nat_lt, if◌then◌else◌, length, map, take, get_or, count_by, refl, sym, ap, ap₂, ◌∙◌, subst, inl, inr, arith}
+use Rattle.std.proofs.Common.{◌≡◌, ℕ, zero, suc, ◌+◌, ◌<◌, ◌≤◌, Bool, true, false, not, ◌&&◌, ◌||◌, ◌==◌, List, [], ◌∷◌, ◌++◌, nat_lt, if◌then◌else◌, length, take, get_or, count_by, refl, sym, ap, ◌∙◌, subst, inl, inr, arith}
 use Rattle.std.specs.Prelude.{Option, Some, None, IfSome}
-use Rattle.std.proofs.lemmas.Bool.{and_from, and_parts, cases_Bool, eq-eqb, eqb-true, false_from_ne_true, leb-true, le-ltb, lt-ltb, not-true, not_from_false, or_cases, or_left, or_right, true≢false}
+use Rattle.std.proofs.lemmas.Bool.{and_from, and_parts, eqb-true, false_from_ne_true, leb-true, le-ltb, lt-ltb, not-true, not_from_false, or_cases, or_left, or_right, true≢false}
 use Rattle.std.proofs.lemmas.List.{length-append, take_more}
-use Rattle.std.proofs.lemmas.List.Sums.{count_by-le-length, sum_by_push}
+use Rattle.std.proofs.lemmas.List.Sums.{sum_by_push}
 use Rattle.hrt_base.specs.declared.numbered.RowNo.{RowNo}
 use Rattle.hrt_base.specs.declared.numbered.PairNo.{PairNo}
 use Rattle.pb_rows.specs.Terms.{PlainRow}
 use Rattle.pb_rows.specs.Formula.{NumberedRow, is_numbered, row_of}
 use Rattle.rank_tables.specs.Numbers.{is_distinct, is_in, numbers_to}
 use Rattle.rank_tables.specs.Instance.{Lists, capacity_of, pair_at, pair_count, pairs_of_hospital, rank_by_hospital}
-use Rattle.rank_tables.specs.Tables.{IsPairNo, numbers_of}
+use Rattle.rank_tables.specs.Tables.{numbers_of}
 use Rattle.rank_tables.proofs.Numbers.{all_from, distinct-filter, distinct-numbers_to, distinct_push}
 use Rattle.stability_model.specs.Gone.{has_only, rule_b}
 use Rattle.stability_model.proofs.Counts.{count_by_le, count_in_list}
+use Rattle.proof_lines.specs.declared.line.Line.{Line}
+use Rattle.proof_lines.specs.declared.line.Line.TheVariants.{Pol}
+use Rattle.proof_lines.specs.Texts.{line_text}
 use Rattle.proof_rules.specs.Held.{row_numbers}
 use Rattle.proof_rules.specs.States.{AreNumbered, IsInOrder}
 use Rattle.proof_rules.proofs.Held.{is_in-append}
@@ -24,7 +27,9 @@ use Rattle.derivation.specs.Derived.{Derived, StaysValid}
 use Rattle.derivation.specs.Ready.{IsReady}
 use Rattle.derivation.specs.Steps.{with_new_row}
 use Rattle.derivation.proofs.Readiness.{ready_row, row_front, row_last, row_numbered}
-use Rattle.pair_reduction.specs.Offers.{offer_row}
+use Rattle.pair_reduction.specs.Offers.{offer_row, offer_steps}
+use Rattle.pair_reduction.specs.Added.{LeavesOnly}
+use Rattle.pair_reduction.proofs.Added.{adds_further, adds_line, adds_nothing, only_further, only_none, only_row}
 use Rattle.pair_reduction.proofs.Tested.{listed_count}
 use Rattle.pair_reduction.specs.Reduced.{Adds, AreMade, GoesOn, HaveOffers, HasOffers, KeepsLive, is_offering}
 
@@ -58,16 +63,17 @@ kept_row row text old new e n other found =
     ap (λ (d : Derived). row_of n d.state.live) e ∙ row_front n other old.state.live (record { number = old.state.next; row = row } ∷ []) found
 
 pub adds_none : (d : Derived) → IsReady d → Adds d d 0
-adds_none d ready = record { goes_on = goes_nowhere d; kept = λ n row e. e; ready = ready; held = refl; next = omega arith }
+adds_none d ready = record { goes_on = goes_nowhere d; kept = λ n row e. e; ready = ready; held = refl; notes = adds_nothing d; next = omega arith }
 
-pub adds_row : (row : PlainRow) (text : List ℕ) (start old new : Derived) (rows : ℕ) → Adds start old rows → new ≡ with_new_row row text old → StaysValid old new → Adds start new (rows + 1)
-adds_row row text start old new rows a e valid =
+pub adds_row : (row : PlainRow) (line : Line) (start old new : Derived) (rows : ℕ) → Adds start old rows → new ≡ with_new_row row (line_text line) old → StaysValid old new → Adds start new (rows + 1)
+adds_row row line start old new rows a e valid =
     let next : new.state.next ≡ old.state.next + 1 = ap (λ (d : Derived). d.state.next) e in
     record {
-      goes_on = goes_further start old new a.goes_on (goes_row row text old new e valid);
-      kept = kept_further start old new a.kept (kept_row row text old new e);
-      ready = subst IsReady (sym e) (ready_row row text old a.ready);
+      goes_on = goes_further start old new a.goes_on (goes_row row (line_text line) old new e valid);
+      kept = kept_further start old new a.kept (kept_row row (line_text line) old new e);
+      ready = subst IsReady (sym e) (ready_row row (line_text line) old a.ready);
       held = ap (λ (d : Derived). d.held) e ∙ a.held;
+      notes = adds_further [] [] start old new a.notes (adds_line line old new (ap (λ (d : Derived). d.pending) e));
       next = omega (arith, a.next);
     }
 
@@ -92,8 +98,8 @@ numbers_push : (ids : List RowNo) (id : RowNo) → row_numbers (ids ++ id ∷ []
 numbers_push [] id = refl
 numbers_push (x ∷ ids) id = ap (λ (ns : List ℕ). x.0 ∷ ns) (numbers_push ids id)
 
-pub made_none : (from : ℕ) (live : List NumberedRow) → AreMade from live []
-made_none from live = record { distinct = refl; each = λ n i. absurd (true≢false (sym i)) }
+pub made_none : (d : Derived) → AreMade d d []
+made_none d = record { distinct = refl; each = λ n i. absurd (true≢false (sym i)); only = only_none d }
 
 last_one : (n k : ℕ) (r : Bool) → (n == k || false) ≡ true → n ≡ k
 last_one n k r e = elim (or_cases (n == k) false e) [
@@ -101,9 +107,10 @@ last_one n k r e = elim (or_cases (n == k) false e) [
   | inr f ↦ absurd (cc)
 ]
 
-pub made_row : (from : ℕ) (ids : List RowNo) (id : RowNo) (old new : Derived) (row : PlainRow) (text : List ℕ) → AreMade from old.state.live ids → IsInOrder old.state → from ≤ old.state.next → id.0 ≡ old.state.next → new ≡ with_new_row row text old →
-    AreMade from new.state.live (ids ++ id ∷ [])
-made_row from ids id old new row text made order low number e = record {
+pub made_row : (start : Derived) (ids : List RowNo) (id : RowNo) (old new : Derived) (row : PlainRow) (text : List ℕ) → AreMade start old ids → IsInOrder old.state → start.state.next ≤ old.state.next → id.0 ≡ old.state.next → new ≡ with_new_row row text old →
+    AreMade start new (ids ++ id ∷ [])
+made_row start ids id old new row text made order low number e = record {
+  only = subst (λ (ns : List ℕ). LeavesOnly ns start new) (sym (numbers_push ids id)) (only_further (row_numbers ids) (id.0 ∷ []) start old new made.only (only_row row text id.0 old new number e));
   distinct = ap is_distinct (numbers_push ids id) ∙ distinct_push (row_numbers ids) id.0 made.distinct
       (false_from_ne_true (is_in id.0 (row_numbers ids)) (λ i. not_next old.state.next old.state.live order (subst (λ (n : ℕ). is_numbered n old.state.live ≡ true) number (made.each id.0 i).1)));
   each = λ n i.
@@ -165,13 +172,13 @@ have_made lists deletions p q qs count old new text have offering order e = reco
 -- after some pairs
 pub record Offering (lists : Lists) (start now : Derived) (deletions : Deletions) (p posts : ℕ) (qs : List ℕ) (ids : List RowNo) : Type 0 where
   pub adds : Adds start now (length ids)
-  pub made : AreMade start.state.next now.state.live ids
+  pub made : AreMade start now ids
   pub have : HaveOffers lists deletions p qs now.state.live (length ids)
   pub most : length ids ≤ posts
 
 pub offering_none : (lists : Lists) (start : Derived) (deletions : Deletions) (p posts : ℕ) → IsReady start → Offering lists start start deletions p posts [] []
 offering_none lists start deletions p posts ready =
-    record { adds = adds_none start ready; made = made_none start.state.next start.state.live; have = have_none lists deletions p start.state.live; most = omega arith }
+    record { adds = adds_none start ready; made = made_none start; have = have_none lists deletions p start.state.live; most = omega arith }
 
 length-push : (ids : List RowNo) (id : RowNo) → length (ids ++ id ∷ []) ≡ length ids + 1
 length-push ids id = length-append ids (id ∷ [])
@@ -185,15 +192,16 @@ offering_passed lists start now deletions p posts q qs more ids e other o = reco
   most = o.most;
 }
 
-pub offering_made : (lists : Lists) (start old new : Derived) (deletions : Deletions) (p posts q : ℕ) (qs more : List ℕ) (ids : List RowNo) (id : RowNo) (text : List ℕ) → more ≡ qs ++ q ∷ [] → is_offering lists deletions p q ≡ true →
-    new ≡ with_new_row (offer_row lists q) text old → StaysValid old new → IsInOrder old.state → id.0 ≡ old.state.next → length ids < posts → Offering lists start old deletions p posts qs ids → Offering lists start new deletions p posts more (ids ++ id ∷ [])
-offering_made lists start old new deletions p posts q qs more ids id text e yields is valid order number room o =
+pub offering_made : (lists : Lists) (start old new : Derived) (deletions : Deletions) (p posts q : ℕ) (qs more : List ℕ) (ids : List RowNo) (id : RowNo) → more ≡ qs ++ q ∷ [] → is_offering lists deletions p q ≡ true →
+    new ≡ with_new_row (offer_row lists q) (line_text (Pol (offer_steps lists deletions q))) old → StaysValid old new → IsInOrder old.state → id.0 ≡ old.state.next → length ids < posts → Offering lists start old deletions p posts qs ids → Offering lists start new deletions p posts more (ids ++ id ∷ [])
+offering_made lists start old new deletions p posts q qs more ids id e yields is valid order number room o =
+    let line : Line = Pol (offer_steps lists deletions q) in
     let longer = length-push ids id in
     record {
-      adds = subst (Adds start new) (sym longer) (adds_row (offer_row lists q) text start old new (length ids) o.adds is valid);
-      made = made_row start.state.next ids id old new (offer_row lists q) text o.made order (omega (arith, o.adds.next)) number is;
+      adds = subst (Adds start new) (sym longer) (adds_row (offer_row lists q) line start old new (length ids) o.adds is valid);
+      made = made_row start ids id old new (offer_row lists q) (line_text line) o.made order (omega (arith, o.adds.next)) number is;
       have = subst (λ (n : ℕ). HaveOffers lists deletions p more new.state.live n) (sym longer)
-          (subst (λ (xs : List ℕ). HaveOffers lists deletions p xs new.state.live (length ids + 1)) (sym e) (have_made lists deletions p q qs (length ids) old new text o.have yields order is));
+          (subst (λ (xs : List ℕ). HaveOffers lists deletions p xs new.state.live (length ids + 1)) (sym e) (have_made lists deletions p q qs (length ids) old new (line_text line) o.have yields order is));
       most = omega arith;
     }
 

@@ -1,14 +1,11 @@
 -- What a quiet set of literals holds, by the rows that it keeps.
-use Rattle.std.proofs.Common.{◌≡◌, ℕ, zero, suc, ◌+◌, ◌-◌, ◌<◌, ◌≤◌, Bool, true, false, not, ◌==◌, List, [], ◌∷◌, if◌then◌else◌, ℤ, pos, negsuc, Contains, refl, sym, ap, ◌∙◌, subst, inl, inr, arith}
-use Rattle.std.specs.List.{All}
-use Rattle.std.proofs.lemmas.Bool.{cases_Bool, true≢false, false_from_ne_true}
+use Rattle.std.proofs.Common.{◌≡◌, ℕ, suc, ◌+◌, ◌<◌, ◌≤◌, Bool, true, false, [], ◌∷◌, if◌then◌else◌, ℤ, Contains, refl, arith}
 use Rattle.std.proofs.lemmas.List.Elements.{All-contains}
 use Rattle.hrt_base.specs.declared.literal.Lit.{Lit}
-use Rattle.hrt_base.specs.declared.literal.Term.{Term}
 use Rattle.pb_rows.specs.Terms.{PlainRow, opposite_lit, weighing}
 use Rattle.pb_rows.specs.Rows.{opposite_row}
 use Rattle.pb_rows.specs.Closure.{IsSettled, Keeps, Literals}
-use Rattle.pb_rows.proofs.Coefs.{coef_row, coef_terms, lit, nonfalse-coefs, open_share, sum_below, term_in}
+use Rattle.pb_rows.proofs.Coefs.{coef_row, coef_terms, lit, nonfalse-coefs, open_share, sum_below}
 use Rattle.derivation.specs.Deletions.{unit_row}
 
 -- ---- rows of one literal

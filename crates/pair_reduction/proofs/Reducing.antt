@@ -1,8 +1,8 @@
 -- Pairs are deleted one after another.
-use Rattle.std.proofs.Common.{◌≡◌, ◌≢◌, ℕ, zero, suc, ◌+◌, ◌-◌, ◌*◌, ◌<◌, ◌≤◌, ◌^◌, Bool, true, false, ◌||◌, ◌==◌, List, [], ◌∷◌, ◌++◌, if◌then◌else◌, length, get_or, set, count_by, refl, sym, ap, ap₂, ◌∙◌, subst, inl, inr, arith, append_assoc, length-set, get_or-set_same, get_or-set_other}
+use Rattle.std.proofs.Common.{◌≡◌, ◌≢◌, ℕ, zero, suc, ◌+◌, ◌-◌, ◌*◌, ◌<◌, ◌≤◌, ◌^◌, Bool, true, false, ◌||◌, ◌==◌, List, [], ◌∷◌, ◌++◌, if◌then◌else◌, length, get_or, set, refl, sym, ap, ◌∙◌, subst, inl, inr, arith, append_assoc, length-set, get_or-set_same, get_or-set_other}
 use Rattle.std.specs.Prelude.{Option, Some, None, IfSome, is_some, slice_set, replicate}
-use Rattle.std.proofs.lemmas.Bool.{cases_Bool, cases_eq, eqb-true, or_cases, or_left, or_right, true≢false}
-use Rattle.std.proofs.lemmas.List.{append-nil, length-append}
+use Rattle.std.proofs.lemmas.Bool.{cases_eq, eq-eqb, eqb-true, or_cases, or_left, or_right, true≢false}
+use Rattle.std.proofs.lemmas.List.{append-nil, length-append, length-replicate}
 use Rattle.std.proofs.lemmas.List.Folds.{sum_by-replicate}
 use Rattle.std.proofs.lemmas.List.Sums.{count_by-le-length, sum_by-set}
 use Rattle.hrt_base.specs.declared.numbered.RowNo.{RowNo}
@@ -14,12 +14,13 @@ use Rattle.stability_model.specs.Gone.{AreGone, Gone, rule_a, rule_b}
 use Rattle.stability_model.proofs.GoneInNone.{gone_in_none}
 use Rattle.stability_model.proofs.GoneSteps.{gone_exact, gone_step}
 use Rattle.proof_lines.specs.Spelling.{row_no}
-use Rattle.proof_rules.specs.Held.{Held, keeping}
+use Rattle.proof_rules.specs.Held.{keeping}
 use Rattle.proof_rules.proofs.Held.{is_in-append}
 use Rattle.derivation.specs.Deletions.{AreUnitRows, Deletions, deleted_count, is_deleted, unit_of, unit_row}
 use Rattle.derivation.specs.Derived.{Derived}
 use Rattle.derivation.specs.Ready.{IsReady}
-use Rattle.pair_reduction.specs.Reduced.{AreInNone, CanReduce, Deletes, GoesOn, HoldsUnits, IsClosedTo, KeepsLive, MakesFew, Reduces}
+use Rattle.pair_reduction.specs.Reduced.{AreInNone, CanReduce, Deletes, HoldsUnits, IsClosedTo, Reduces}
+use Rattle.pair_reduction.proofs.Added.{adds_nothing, only_further, only_none, units_further}
 use Rattle.pair_reduction.proofs.Offering.{goes_further, goes_nowhere, kept_further, units_kept}
 
 -- ---- the map
@@ -82,6 +83,12 @@ one_of n k e = elim (or_cases (k == n) false e) [
   | inr f ↦ absurd (cc)
 ]
 
+here_is : (n k : ℕ) → n ≡ k → is_in k (n ∷ []) ≡ true
+here_is n k e = or_left (n == k) false (eq-eqb n k e)
+
+some_number : (n : ℕ) (id : RowNo) → ◌≡◌ {A = Option RowNo} (Some (row_no n)) (Some id) → n ≡ id.0
+some_number n id e = cc
+
 units_with : (live : List NumberedRow) (before : Deletions) (p q : ℕ) (id : RowNo) → 1 ≤ p → p ≤ length before → AreUnitRows live before → row_of id.0 live ≡ Some (unit_row p) → IfSome (unit_of (slice_set before (p - 1) (Some id)) q) (λ k. row_of k.0 live ≡ Some (unit_row q))
 units_with live before p q id first last units row = elim (cases_eq q p) [
   | inl e ↦ subst (λ (o : Option RowNo). IfSome o (λ k. row_of k.0 live ≡ Some (unit_row q))) (sym (ap (unit_of (slice_set before (p - 1) (Some id))) e ∙ marked_here before p id first last)) (row ∙ ap (λ (k : ℕ). Some (unit_row k)) (sym e))
@@ -116,6 +123,12 @@ reduces_one lists old new before after p can p_is absent rule d few =
       stays = λ q other e. ap (λ (m : Deletions). unit_of m q) marked ∙ grown_unit before p q id other first last absent e;
       ids = d.id ∷ [];
       held = d.held;
+      notes = d.notes;
+      only = d.only;
+      all = λ q other e. elim (cases_eq q p) [
+        | inl f ↦ inr (here_is d.id other.0 (some_number d.id other (sym here ∙ ap (unit_of after) (sym f) ∙ e)))
+        | inr differs ↦ inl (sym (marked_other before p id first last q differs) ∙ ap (λ (m : Deletions). unit_of m q) (sym marked) ∙ e)
+      ];
       count = omega (arith, count);
       each = λ n i. (p, here ∙ ap (λ (k : ℕ). Some (row_no k)) (sym (one_of n d.id i)));
     }
@@ -131,6 +144,9 @@ reduces_none lists d deletions can = record {
   stays = λ p id e. e;
   ids = [];
   held = ap (λ (ns : List ℕ). record d.held { kept = ns }) (sym (append-nil d.held.kept));
+  notes = adds_nothing d;
+  only = only_none d;
+  all = λ p id e. inl e;
   count = omega arith;
   each = λ n i. absurd (true≢false (sym i));
 }
@@ -144,6 +160,16 @@ reduces_more lists a b c x y z g h = record {
   stays = λ p id e. h.stays p id (g.stays p id e);
   ids = g.ids ++ h.ids;
   held = h.held ∙ ap (keeping h.ids) g.held ∙ ap (λ (ns : List ℕ). record a.held { kept = ns }) (append_assoc a.held.kept g.ids h.ids);
+  notes = units_further g.ids h.ids a b c g.notes h.notes;
+  only = only_further g.ids h.ids a b c g.only h.only;
+  all = λ p id e.
+      elim (h.all p id e) [
+        | inl f ↦ elim (g.all p id f) [
+          | inl k ↦ inl k
+          | inr k ↦ inr (is_in-append id.0 g.ids h.ids ∙ or_left (is_in id.0 g.ids) (is_in id.0 h.ids) k)
+        ]
+        | inr k ↦ inr (is_in-append id.0 g.ids h.ids ∙ or_right (is_in id.0 g.ids) (is_in id.0 h.ids) k)
+      ];
   count = omega (arith, g.count, h.count, length-append g.ids h.ids);
   each = λ n i.
       elim (or_cases (is_in n g.ids) (is_in n h.ids) (sym (is_in-append n g.ids h.ids) ∙ i)) [
@@ -205,5 +231,43 @@ are_in_none lists at d deletions same can = subst (λ (l : Lists). AreInNone l d
 none_counted : (n : ℕ) → deleted_count (replicate n None) ≡ 0
 none_counted n = let e = sum_by-replicate (λ (o : Option RowNo). if is_some o then 1 else 0) n None in omega (arith, e)
 
+none_at : (n p : ℕ) → unit_of (replicate n None) p ≡ None
+none_at n zero = refl
+none_at zero (suc k) = refl
+none_at (suc n) (suc zero) = refl
+none_at (suc n) (suc (suc k)) = none_at n (suc k)
+
 pub holds_units : (lists : Lists) (old new : Derived) (deletions : Deletions) (n : ℕ) → Reduces lists old new (replicate n None) deletions → HoldsUnits old new deletions
-holds_units lists old new deletions n r = record { ids = r.ids; held = r.held; count = omega (arith, r.count, none_counted n); each = r.each }
+holds_units lists old new deletions n r = record {
+  ids = r.ids;
+  held = r.held;
+  notes = r.notes;
+  only = r.only;
+  count = omega (arith, r.count, none_counted n);
+  each = r.each;
+  all = λ p id e. elim (r.all p id e) [
+    | inl f ↦ let wrong : ◌≡◌ {A = Option RowNo} None (Some id) = sym (none_at n p) ∙ f in absurd (cc)
+    | inr i ↦ i
+  ];
+}
+
+-- ---- the start
+
+none_there : (n p : ℕ) → is_deleted (replicate n None) p ≡ true → ⊥
+none_there n p e = true≢false (sym e ∙ ap is_some (none_at n p))
+
+can_first : (lists : Lists) (d : Derived) → lists ≡ d.lists → IsReady d → d.state.next + 20001 * pair_count d.lists ≤ 10 ^ 18 → CanReduce lists d (replicate (pair_count lists) None)
+can_first lists d same ready room = record {
+  same = same;
+  ready = ready;
+  units = λ p. subst (λ (o : Option RowNo). IfSome o (λ id. row_of id.0 d.state.live ≡ Some (unit_row p))) (sym (none_at (pair_count lists) p)) tt;
+  pairs = length-replicate (pair_count lists) None;
+  gone = λ p e. absurd (none_there (pair_count lists) p e);
+  room = let counts : pair_count lists ≡ pair_count d.lists = ap pair_count same in omega (arith, room, counts);
+}
+
+pub reduces_first : (lists at : Lists) (d : Derived) (n : ℕ) (deletions : Deletions) → lists ≡ d.lists → at ≡ d.lists → IsReady d → n ≡ pair_count at → deletions ≡ replicate n None → d.state.next + 20001 * pair_count d.lists ≤ 10 ^ 18 →
+    Reduces lists d d (replicate (pair_count lists) None) deletions
+reduces_first lists at d n deletions same again ready count is room =
+    let all : deletions ≡ replicate (pair_count lists) None = is ∙ ap (λ (k : ℕ). replicate k None) (count ∙ ap pair_count (again ∙ sym same)) in
+    subst (Reduces lists d d (replicate (pair_count lists) None)) (sym all) (reduces_none lists d (replicate (pair_count lists) None) (can_first lists d same ready room))

@@ -1,14 +1,14 @@
 -- Rule A by propagation: where a pair is sure of a post, each pair that its resident ranks lower follows to be 0 from the row
 -- of the resident, the unit rows of the pairs that are gone and the row of the pair.
-use Rattle.std.proofs.Common.{◌≡◌, ℕ, zero, suc, ◌+◌, ◌<◌, ◌≤◌, Bool, true, false, not, ◌&&◌, ◌==◌, List, [], ◌∷◌, nat_le, nat_lt, if◌then◌else◌, filter, count_by, ℤ, pos, Contains, refl, sym, ap, ◌∙◌, subst, inl, inr, arith}
-use Rattle.std.proofs.lemmas.Bool.{and_from, and_parts, cases_Bool, eq-eqb, eqb-true, false_from_ne_true, leb-true, ltb-true, true≢false}
+use Rattle.std.proofs.Common.{◌≡◌, ℕ, suc, ◌+◌, ◌<◌, ◌≤◌, Bool, true, false, not, ◌&&◌, ◌==◌, List, ◌∷◌, nat_le, if◌then◌else◌, filter, count_by, pos, Contains, refl, sym, ap, ◌∙◌, subst, inl, inr, arith}
+use Rattle.std.proofs.lemmas.Bool.{and_from, and_parts, cases_Bool, eq-eqb, eqb-true, false_from_ne_true, leb-true, ltb-true}
 use Rattle.std.proofs.lemmas.List.Elements.{All-contains, All-tail, All-head}
 use Rattle.pb_rows.specs.Terms.{PlainRow}
 use Rattle.pb_rows.specs.Rows.{in_normal_form, opposite_row}
 use Rattle.pb_rows.specs.Closure.{Implies, IsQuiet, Keeps, Literals, none}
 use Rattle.pb_rows.proofs.Coefs.{coef_row, lit, open_share, sum_below-le}
 use Rattle.rank_tables.specs.Numbers.{is_in, numbers_to}
-use Rattle.rank_tables.specs.Instance.{Lists, capacity_of, pair_at, pair_count, pairs_of_hospital, pairs_of_resident, rank_by_hospital, rank_by_resident}
+use Rattle.rank_tables.specs.Instance.{Lists, capacity_of, pair_at, pair_count, pairs_of_hospital, rank_by_hospital, rank_by_resident}
 use Rattle.rank_tables.specs.Tables.{IsPairNo}
 use Rattle.rank_tables.proofs.Numbers.{is_in-filter}
 use Rattle.stability_model.specs.Model.{is_as_good_for_resident, pair_row, resident_row}

@@ -1,13 +1,13 @@
 -- Rule B by propagation: where a pair is taken, each resident that its hospital strictly prefers and that has nothing else takes
 -- its own pair there, by its offer's row. So many residents and the pair are too many for the hospital's row.
-use Rattle.std.proofs.Common.{◌≡◌, ℕ, zero, suc, ◌+◌, ◌<◌, ◌≤◌, Bool, true, false, not, ◌&&◌, ◌==◌, List, [], ◌∷◌, nat_lt, if◌then◌else◌, filter, count_by, ℤ, pos, negsuc, ◌+ℤ◌, Contains, refl, sym, ap, ◌∙◌, subst, inl, inr, arith}
+use Rattle.std.proofs.Common.{◌≡◌, ℕ, zero, suc, ◌+◌, ◌<◌, ◌≤◌, Bool, true, false, ◌&&◌, ◌==◌, List, ◌∷◌, nat_lt, if◌then◌else◌, filter, count_by, ℤ, pos, negsuc, Contains, refl, sym, ap, ◌∙◌, subst, inl, inr, arith}
 use Rattle.std.proofs.lemmas.Bool.{and_from, and_parts, cases_Bool, eq-eqb, eqb-true, false_from_ne_true, ltb-true, ne_eqb, true≢false}
 use Rattle.std.proofs.lemmas.List.Elements.{All-contains, All-tail, All-head}
 use Rattle.pb_rows.specs.Terms.{PlainRow}
-use Rattle.pb_rows.specs.Normal.{negative_part, or_zero}
+use Rattle.pb_rows.specs.Normal.{negative_part}
 use Rattle.pb_rows.specs.Rows.{in_normal_form, opposite_row}
 use Rattle.pb_rows.specs.Closure.{Implies, IsQuiet, Keeps, Literals, none}
-use Rattle.pb_rows.proofs.Coefs.{coef_row, lit, minus_sum, open_share, sum_below, sum_below-add, sum_below-less, sum_below-one, term_in}
+use Rattle.pb_rows.proofs.Coefs.{coef_row, lit, minus_sum, open_share, sum_below-add, sum_below-less, sum_below-one, term_in}
 use Rattle.rank_tables.specs.Numbers.{is_in, numbers_to}
 use Rattle.rank_tables.specs.Instance.{Lists, capacity_of, pair_at, pair_count, pairs_of_hospital, rank_by_hospital}
 use Rattle.rank_tables.specs.Tables.{IsPairNo}

@@ -1,12 +1,11 @@
 -- What the line and the note of a deleted pair ask for, and what they do.
-use Rattle.std.proofs.Common.{◌≡◌, ℕ, ◌+◌, ◌-◌, ◌*◌, ◌<◌, ◌≤◌, ◌^◌, Bool, true, false, ◌&&◌, List, [], ◌∷◌, ◌++◌, nat_le, if◌then◌else◌, length, pos, refl, sym, ap, ap₂, ◌∙◌, subst, inl, inr, zero-le, arith}
-use Rattle.std.specs.Prelude.{Option, Some, None, Result, Ok, Err, codes, decimal, OnErr}
+use Rattle.std.proofs.Common.{◌≡◌, ℕ, ◌-◌, ◌*◌, ◌<◌, ◌≤◌, ◌^◌, true, ◌&&◌, List, [], ◌∷◌, ◌++◌, nat_le, if◌then◌else◌, length, pos, refl, sym, ap, ap₂, ◌∙◌, subst, inr, zero-le, arith}
+use Rattle.std.specs.Prelude.{Result, Ok, Err, codes, decimal, OnErr}
 use Rattle.std.specs.Fmt.{digits, signed_decimal}
 use Rattle.std.specs.List.{list_all}
 use Rattle.std.proofs.lemmas.Bool.{and_from, and_parts, le-leb, leb-true}
 use Rattle.std.proofs.lemmas.Fmt.{length-decimal-le}
 use Rattle.std.proofs.lemmas.List.{length-append}
-use Rattle.hrt_base.specs.declared.literal.Lit.{Lit}
 use Rattle.hrt_base.specs.declared.numbered.RowNo.{RowNo}
 use Rattle.pb_rows.specs.Terms.{PlainRow, weighing}
 use Rattle.pb_rows.specs.Normal.{all_sizes, normal_form}
@@ -14,18 +13,18 @@ use Rattle.pb_rows.specs.Rows.{IsNormal, in_normal_form}
 use Rattle.pb_rows.specs.Closure.{Implies}
 use Rattle.row_text.specs.Rows.{is_small_row, literal_text, signed_text}
 use Rattle.row_text.specs.Tokens.{spaced}
-use Rattle.rank_tables.specs.Instance.{Lists, pair_count}
+use Rattle.rank_tables.specs.Instance.{pair_count}
 use Rattle.proof_lines.specs.declared.line.Line.TheVariants.{Rup}
 use Rattle.proof_lines.specs.declared.note.Note.TheVariants.{Unit as UnitRow}
 use Rattle.proof_lines.specs.Spelling.{most_bytes, row_no}
 use Rattle.proof_lines.specs.Texts.{is_made_id, line_text, note_text}
-use Rattle.proof_rules.specs.Refusals.{Refusal, TooBig, and_then}
+use Rattle.proof_rules.specs.Refusals.{TooBig}
 use Rattle.proof_rules.specs.States.{State, if_known, literals_in, live_rows, rup_row, with_row}
 use Rattle.proof_rules.proofs.Canonical.{normal_form-normal}
 use Rattle.proof_rules.proofs.Made.{made_if, made_known, made_then}
 use Rattle.derivation.specs.Deletions.{unit_row}
 use Rattle.derivation.specs.Derived.{Derived}
-use Rattle.derivation.specs.Steps.{IsWritable, Takes, with_new_row, with_note, written_of}
+use Rattle.derivation.specs.Steps.{IsWritable, Takes, with_note, written_of}
 use Rattle.pair_reduction.specs.Reduced.{StopsAtUnit, with_unit, with_unit_row}
 
 unit_normal : (p : ℕ) → IsNormal (unit_row p)

@@ -1,31 +1,26 @@
 -- The line of an offer can be written.
-use Rattle.std.proofs.Common.{◌≡◌, ℕ, zero, suc, ◌+◌, ◌-◌, ◌*◌, ◌<◌, ◌≤◌, ◌^◌, Bool, true, false, ◌&&◌, List, [], ◌∷◌, ◌++◌, nat_le, if◌then◌else◌, length, filter, ℤ, pos, refl, sym, ap, ap₂, ◌∙◌, subst, inl, inr, arith}
+use Rattle.std.proofs.Common.{◌≡◌, ℕ, ◌+◌, ◌-◌, ◌*◌, ◌<◌, ◌≤◌, ◌^◌, Bool, true, false, ◌&&◌, List, [], ◌∷◌, ◌++◌, nat_le, if◌then◌else◌, length, pos, refl, ap, inl, inr, arith}
 use Rattle.std.specs.Prelude.{flat_map, Option, Some, None, codes, decimal, IfSome}
 use Rattle.std.specs.List.{list_all}
 use Rattle.std.proofs.lemmas.Bool.{and_from, and_parts, le-leb, cases_lt}
 use Rattle.std.proofs.lemmas.Fmt.{length-decimal-le}
 use Rattle.std.proofs.lemmas.List.{length-append}
 use Rattle.std.proofs.lemmas.List.Concat.{flat_map-append}
-use Rattle.std.proofs.lemmas.List.Sums.{count_by-le-length, length-filter}
 use Rattle.hrt_base.specs.declared.numbered.RowNo.{RowNo}
 use Rattle.pb_rows.specs.Terms.{PlainRow}
 use Rattle.pb_rows.specs.Formula.{NumberedRow, row_of}
 use Rattle.row_text.specs.Tokens.{spaced}
 use Rattle.row_text.proofs.RowWords.{spaced_append}
-use Rattle.rank_tables.specs.Numbers.{numbers_to}
-use Rattle.rank_tables.specs.Instance.{Lists, capacity_of, pair_at, pair_count, pairs_of_resident}
-use Rattle.rank_tables.proofs.Below.{length-numbers_to}
-use Rattle.stability_model.specs.Model.{hospital_row_no, pair_row_no}
 use Rattle.proof_lines.specs.declared.line.PolStep.{PolStep}
 use Rattle.proof_lines.specs.declared.line.PolStep.TheVariants.{Id, Times, Add}
 use Rattle.proof_lines.specs.declared.line.Line.TheVariants.{Pol}
-use Rattle.proof_lines.specs.Spelling.{is_small_step, row_no}
+use Rattle.proof_lines.specs.Spelling.{is_small_step}
 use Rattle.proof_lines.specs.Texts.{is_made_step, step_words}
 use Rattle.proof_rules.specs.States.{AreNumbered}
 use Rattle.proof_rules.proofs.Numbers.{none-below, none-from}
 use Rattle.derivation.specs.Deletions.{AreUnitRows, Deletions, unit_of, unit_row}
 use Rattle.derivation.specs.Steps.{IsWritable}
-use Rattle.pair_reduction.specs.Offers.{before_steps, is_before, offer_steps, row_steps, unit_steps}
+use Rattle.pair_reduction.specs.Offers.{unit_steps}
 
 -- the steps can be written in so many bytes
 pub record AreGood (steps : List PolStep) (most : ℕ) : Type 0 where

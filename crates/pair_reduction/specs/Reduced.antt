@@ -17,6 +17,7 @@ use Rattle.derivation.specs.Deletions.{AreUnitRows, Deletions, deleted_count, is
 use Rattle.derivation.specs.Derived.{Derived, StaysValid}
 use Rattle.derivation.specs.Ready.{IsReady}
 use Rattle.derivation.specs.Steps.{with_new_row, with_note, written_of}
+use Rattle.pair_reduction.specs.Added.{AddsNotes, LeavesOnly, unit_notes}
 use Rattle.pair_reduction.specs.Offers.{offer_row}
 
 -- no weakly stable matching has a pair that is deleted
@@ -34,12 +35,16 @@ pub record GoesOn (old new : Derived) : Type 0 where
   pub least : new.state.least ≡ old.state.least
   pub valid : StaysValid old new
 
--- the rows of the deleted pairs, one for each, are held from here on, and no other row
+-- The rows of the deleted pairs, one for each, are held from here on, and no other row. A unit note of each was added, and no
+-- other note. They are live, and no other row is that wasn't live before.
 pub record HoldsUnits (old new : Derived) (deletions : Deletions) : Type 0 where
   pub ids : List ℕ
   pub held : new.held ≡ keeping ids old.held
+  pub notes : AddsNotes (unit_notes ids) old new
+  pub only : LeavesOnly ids old new
   pub count : length ids ≡ deleted_count deletions
   pub each : (n : ℕ) → is_in n ids ≡ true → (p : ℕ) × (unit_of deletions p ≡ Some (record { 0 = n }))
+  pub all : (p : ℕ) (id : RowNo) → unit_of deletions p ≡ Some id → is_in id.0 ids ≡ true
 
 -- at most 20,001 rows were made for each of so many pairs
 abbrev pub MakesFew : ℕ → Derived → Derived → Type 0
@@ -64,16 +69,18 @@ pub record Adds (old new : Derived) (rows : ℕ) : Type 0 where
   pub kept : KeepsLive old new
   pub ready : IsReady new
   pub held : new.held ≡ old.held
+  pub notes : AddsNotes [] old new
   pub next : new.state.next ≡ old.state.next + rows
 
 -- a resident that the hospital of p strictly prefers and that has nothing else
 abbrev pub is_offering : Lists → Deletions → ℕ → ℕ → Bool
 is_offering lists deletions p q = nat_lt (rank_by_hospital lists q) (rank_by_hospital lists p) && has_only lists (is_deleted deletions) q
 
--- the numbers of rows that were made since: each once, each live, from so many on
-pub record AreMade (from : ℕ) (live : List NumberedRow) (ids : List RowNo) : Type 0 where
+-- the numbers of the rows that were made: each once, each new and live, and no other is
+pub record AreMade (old new : Derived) (ids : List RowNo) : Type 0 where
   pub distinct : is_distinct (row_numbers ids) ≡ true
-  pub each : (n : ℕ) → is_in n (row_numbers ids) ≡ true → (from ≤ n) × (is_numbered n live ≡ true)
+  pub each : (n : ℕ) → is_in n (row_numbers ids) ≡ true → (old.state.next ≤ n) × (is_numbered n new.state.live ≡ true)
+  pub only : LeavesOnly (row_numbers ids) old new
 
 -- so many of the pairs are offering, and the row of each of these offers is live
 pub record HaveOffers (lists : Lists) (deletions : Deletions) (p : ℕ) (qs : List ℕ) (live : List NumberedRow) (count : ℕ) : Type 0 where
@@ -95,6 +102,8 @@ pub record Deletes (old new : Derived) (before after : Deletions) (p : ℕ) : Ty
   pub kept : KeepsLive old new
   pub ready : IsReady new
   pub held : new.held ≡ keeping (id ∷ []) old.held
+  pub notes : AddsNotes (unit_notes (id ∷ [])) old new
+  pub only : LeavesOnly (id ∷ []) old new
   pub marked : after ≡ slice_set before (p - 1) (Some (row_no id))
   pub row : row_of id new.state.live ≡ Some (unit_row p)
 
@@ -118,8 +127,11 @@ pub record Reduces (lists : Lists) (old new : Derived) (before after : Deletions
   pub stays : (p : ℕ) (id : RowNo) → unit_of before p ≡ Some id → unit_of after p ≡ Some id
   pub ids : List ℕ
   pub held : new.held ≡ keeping ids old.held
+  pub notes : AddsNotes (unit_notes ids) old new
+  pub only : LeavesOnly ids old new
   pub count : length ids + deleted_count before ≡ deleted_count after
   pub each : (n : ℕ) → is_in n ids ≡ true → (p : ℕ) × (unit_of after p ≡ Some (row_no n))
+  pub all : (p : ℕ) (id : RowNo) → unit_of after p ≡ Some id → (unit_of before p ≡ Some id) ⊎ (is_in id.0 ids ≡ true)
 
 -- where a rule shows the pair, it is deleted
 abbrev pub IsClosedTo : Lists → Deletions → ℕ → Type 0

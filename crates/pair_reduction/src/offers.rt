@@ -135,7 +135,7 @@ pub(crate) fn offers(
     requires rule { rule_b model.now (is_deleted gone.now) p.0 ≡ true }
     requires next { deriv.old.state.next + 20000 < 10 ^ 18 }
     ensures adds { IfOk result (λ ids. Adds deriv.old deriv.new (length ids.items)) }
-    ensures made { IfOk result (λ ids. AreMade deriv.old.state.next deriv.new.state.live ids.items) }
+    ensures made { IfOk result (λ ids. AreMade deriv.old deriv.new ids.items) }
     ensures few { IfOk result (λ ids. length ids.items ≤ 20000) }
     ensures offers { OnOk result (HasOffers model.now gone.now p.0 deriv.new.state.live) }
     ensures goes_on { GoesOn deriv.old deriv.new }

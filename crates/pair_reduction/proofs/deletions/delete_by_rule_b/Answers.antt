@@ -1,5 +1,6 @@
-use Rattle.std.proofs.Common.{◌==◌, List, ap, length, sym, ◌∙◌, subst, arith}
+use Rattle.std.proofs.Common.{List, ap, length, sym, ◌∙◌, subst, arith}
 use Rattle.std.specs.Prelude.{IsOk}
+use Rattle.std.proofs.lemmas.Bool.{eqb-true}
 use Rattle.hrt_base.specs.declared.numbered.RowNo.{RowNo}
 use Rattle.rank_tables.specs.Instance.{Lists, pair_at}
 use Rattle.proof_lines.specs.declared.line.Line.TheVariants.{Del}
@@ -19,6 +20,7 @@ pub returns-then-is_empty-clause-deletes : goal.returns-then-is_empty-clause-del
 returns-then-is_empty-clause-deletes c =
     deletes_alone c.args.p.0 c.args.deriv.now c.offers.new.deriv c.delete.new.deriv c.args.gone.now c.delete.new.gone c.in_ok-ids.ids.items c.requires.ready c.next-first.ensures.in_order c.in_ok-ids.ensures.adds c.in_ok-ids.ensures.made
     c.next-next.ensures.in_order c.in_ok-delete.ensures.made c.in_ok-delete.ensures.valid c.in_ok-delete.ensures.marked
+    (omega (arith, eqb-true c.in_ok-ids.ids.len 0 (sym c.is_empty.ensures ∙ c.if-is_empty.true), c.in_ok-ids.ids.ok))
 
 pub forget-requires-clause-writable : goal.forget-requires-clause-writable
 forget-requires-clause-writable c =

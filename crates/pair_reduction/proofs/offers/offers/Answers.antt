@@ -1,5 +1,4 @@
 use Rattle.std.proofs.Common.{sym, ap, ◌∙◌, arith}
-use Rattle.rank_tables.specs.Tables.{numbers_of}
 use Rattle.pair_reduction.proofs.Offering.{all_are_enough, ends_with_offers, is_offering_by, next_number, no_offer_by_only, no_offer_by_rank, offering_as, offering_made, offering_passed}
 use Rattle.pair_reduction.proofs.offers.offers.Goals as goal
 use Rattle.pair_reduction.proofs.offers.offers.Goals.{then-rank_by_hospital+then-has_only+in_ok-id+in_ok-push, else-rank_by_hospital, else-rank_by_hospital-via-then-rank_by_hospital+else-has_only, else-rank_by_hospital-via-else-rank_by_hospital}
@@ -15,7 +14,7 @@ loop-q-preserved c =
       | then-rank_by_hospital+then-has_only+in_ok-id+in_ok-push w ↦
           offering_as c.args.model.now c.args.deriv.now w.offer.new.deriv c.if-rank_by_hospital.deriv c.args.gone.now c.args.p.0 c.capacity-posts.result _ _ c.if-rank_by_hospital.ids.items w.deriv-is
           (ap (λ v. v.items) w.ids-is ∙ w.in_ok-push.ensures.items)
-          (offering_made c.args.model.now c.args.deriv.now c.loop-q.deriv w.offer.new.deriv c.args.gone.now c.args.p.0 c.capacity-posts.result _ _ _ c.loop-q.ids.items w.in_ok-id.id _ (next_number c.pairs_of_hospital-pairs.result.now c.loop-q.q-index _ c.loop-q-test.true)
+          (offering_made c.args.model.now c.args.deriv.now c.loop-q.deriv w.offer.new.deriv c.args.gone.now c.args.p.0 c.capacity-posts.result _ _ _ c.loop-q.ids.items w.in_ok-id.id (next_number c.pairs_of_hospital-pairs.result.now c.loop-q.q-index _ c.loop-q-test.true)
           (is_offering_by c.instance-inst.result.now c.args.model.now c.args.gone.now c.args.p.0 _ c.rank_by_hospital.result c.rank_by_hospital-in-loop-q.result c.instance-inst.ensures c.rank_by_hospital.ensures.value c.rank_by_hospital-in-loop-q.ensures.value
           w.if-rank_by_hospital.true (sym w.has_only.ensures ∙ w.if-has_only.true)) w.in_ok-id.ensures.made w.in_ok-id.ensures.valid w.in_ok-id.ensures.order w.in_ok-id.ensures.id
           (omega (arith, c.if-len-posts.false, c.len.ensures, c.loop-q.ids.ok)) c.loop-q.invariant)

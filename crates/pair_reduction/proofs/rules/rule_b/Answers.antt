@@ -1,4 +1,4 @@
-use Rattle.std.proofs.Common.{◌&&◌, ◌==◌, not, nat_le, nat_lt, ap, ap₂, ◌∙◌, arith}
+use Rattle.std.proofs.Common.{◌&&◌, nat_le, nat_lt, ap, ap₂, ◌∙◌, arith}
 use Rattle.rank_tables.specs.Instance.{capacity_of, rank_by_hospital}
 use Rattle.stability_model.specs.Gone.{has_only}
 use Rattle.derivation.specs.Deletions.{is_deleted}

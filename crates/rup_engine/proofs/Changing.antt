@@ -1,6 +1,7 @@
 -- A store of which one slot changes.
-use Rattle.std.proofs.Common.{◌≡◌, ◌≢◌, ◌∙◌, ◌≤◌, ◌<◌, ◌+◌, ◌^◌, ◌==◌, ℕ, zero, suc, true, false, not, List, [], ◌∷◌, ◌++◌, filter, length, get_or, refl, sym, ap, subst, arith, inl, inr, Option, Some, None, eq-eqb, IsFalse, take, Global}
+use Rattle.std.proofs.Common.{◌≡◌, ◌≢◌, ◌∙◌, ◌≤◌, ◌<◌, ◌+◌, ◌^◌, ◌==◌, ℕ, zero, suc, true, false, not, List, [], ◌∷◌, ◌++◌, filter, length, get_or, refl, sym, ap, subst, arith, inl, inr, Option, Some, None, eq-eqb, nat_eq, IsFalse, IfNone, take, Global}
 use Rattle.std.specs.List.{All}
+use Rattle.std.specs.HashMap.{HashMap, UpdatesBy, get}
 use Rattle.std.proofs.Math.ListN.{set}
 use Rattle.std.proofs.lemmas.Bool.{cases_Bool, cases_eq, cases_lt, eqb-true, ne_eqb, or_from, or_left, or_parts, or_right}
 use Rattle.std.proofs.lemmas.List.Folds.{list_any-append}
@@ -19,7 +20,7 @@ use Rattle.std.specs.declared.vec.Vec.{Vec}
 use Rattle.hrt_base.specs.declared.literal.Term.{Term}
 use Rattle.rup_engine.proofs.Listing.{left-gone, left-other, left-within}
 use Rattle.rup_engine.specs.Slots.{HasNumber, IsOverSlot, IsSteadySlot, Slots, entries_of, entry_of, slot_at, terms_of}
-use Rattle.rup_engine.specs.Store.{AreLeft, coef_for, is_one_of, list_at, place_of, weight_on}
+use Rattle.rup_engine.specs.Store.{AreLeft, AreNamed, IsSlotOf, coef_for, is_one_of, list_at, place_of, weight_on}
 use Rattle.rup_engine.proofs.Counting.{nonfalse_sum-none}
 use Rattle.rup_engine.proofs.Rounds.{row-at}
 
@@ -32,6 +33,7 @@ pub record ChangesSlot (vars : ℕ) (old new : Store) (before after : List ℕ) 
   pub others : (j : ℕ) → j ≢ k → slot_at new.slots.items j ≡ slot_at old.slots.items j
   pub here : slot_at new.slots.items k ≡ o
   pub over : IsOverSlot vars o
+  pub named : AreNamed new.slots.items new.numbers
   pub alone : (j n : ℕ) → j ≢ k → HasNumber n o → HasNumber n (slot_at old.slots.items j) → ⊥
   pub fits : coef_sum (terms_of o) ≤ 2 ^ 120
   pub lists_others : (l : Lit) (j : ℕ) → j ≢ k → coef_for j (list_at new.lists.items (place_of l)) ≡ coef_for j (list_at old.lists.items (place_of l))
@@ -81,6 +83,7 @@ module _ (vars : ℕ) (old new : Store) (before after : List ℕ) (k : ℕ) (o :
         distinct = distinct';
         fits = by_slot (λ j o. coef_sum (terms_of o) ≤ 2 ^ 120) c.fits (λ j ne. ready.kept.slots.fits j);
       };
+      named = c.named;
       places = c.lists_count ∙ ready.kept.places;
       listed = record { coefs = coefs'; within = c.lists_within };
       tight = record { others = tight'; within = c.tight_within };
@@ -104,6 +107,80 @@ not_there n (None ∷ slots) h zero k = k
 not_there n (None ∷ slots) h (suc j) k = not_there n slots h j k
 not_there n (Some s ∷ slots) h zero k = let p = or_parts (s.number.0 == n) (is_numbered n (entries_of slots)) h in let e : (s.number.0 == n) ≡ true = eq-eqb s.number.0 n k in let f = p.0 in absurd (let bad : true ≡ false = sym e ∙ f in cc)
 not_there n (Some s ∷ slots) h (suc j) k = not_there n slots (or_parts (s.number.0 == n) (is_numbered n (entries_of slots)) h).1 j k
+
+-- ---- numbers
+
+-- the number is kept with this slot, if any, and each other number as it was
+pub record Renames {S : Type 0} (old new : HashMap ℕ ℕ S) (n : ℕ) (o : Option ℕ) : Type 0 where
+  pub here : get nat_eq new n ≡ o
+  pub others : (m : ℕ) → m ≢ n → get nat_eq new m ≡ get nat_eq old m
+
+pub renames : {S : Type 0} (old new : HashMap ℕ ℕ S) (n : ℕ) (o : Option ℕ) → UpdatesBy nat_eq (nat_eq n) old new o → Renames old new n o
+renames old new n o u = record { here = u.1; others = λ m ne. u.2 m (ne_eqb n m (λ e. ne (sym e))) }
+
+pub renames-then : {S : Type 0} (old mid new : HashMap ℕ ℕ S) (n : ℕ) (o p : Option ℕ) → Renames old mid n o → Renames mid new n p → Renames old new n p
+renames-then old mid new n o p r s = record { here = s.here; others = λ m ne. s.others m ne ∙ r.others m ne }
+
+-- the slot that is kept with a number is none only where no row has it
+pub unnumbered : (slots : Slots) (n : ℕ) (o : Option ℕ) → IsSlotOf slots n o → IfNone o (is_numbered n (entries_of slots) ≡ false)
+unnumbered slots n None h = absent n slots h
+unnumbered slots n (Some k) h = tt
+
+slot_of-same : (old new : Slots) (n : ℕ) (o : Option ℕ) → ((j : ℕ) → slot_at new j ≡ slot_at old j) → IsSlotOf old n o → IsSlotOf new n o
+slot_of-same old new n None same h = λ j has. h j (subst (HasNumber n) (same j) has)
+slot_of-same old new n (Some k) same h = subst (HasNumber n) (sym (same k)) h
+
+-- the slot that changes has the number neither before nor after
+slot_of-other : (old new : Slots) (k n : ℕ) (o : Option ℕ) → ((j : ℕ) → j ≢ k → slot_at new j ≡ slot_at old j) → (HasNumber n (slot_at old k) → ⊥) → (HasNumber n (slot_at new k) → ⊥)
+    → IsSlotOf old n o → IsSlotOf new n o
+slot_of-other old new k n None others before after h = λ j has. elim (cases_eq j k) [
+  | inl e ↦ after (subst (λ (i : ℕ). HasNumber n (slot_at new i)) e has)
+  | inr ne ↦ h j (subst (HasNumber n) (others j ne) has)
+]
+slot_of-other old new k n (Some i) others before after h = elim (cases_eq i k) [
+  | inl e ↦ absurd (before (subst (λ (i : ℕ). HasNumber n (slot_at old i)) e h))
+  | inr ne ↦ subst (HasNumber n) (sym (others i ne)) h
+]
+
+module _ (old new : Store) (named : AreNamed old.slots.items old.numbers) where
+  pub named-same : ((j : ℕ) → slot_at new.slots.items j ≡ slot_at old.slots.items j) → ((n : ℕ) → get nat_eq new.numbers n ≡ get nat_eq old.numbers n) → AreNamed new.slots.items new.numbers
+  named-same same kept = record { each = λ n. rw (kept n) (slot_of-same old.slots.items new.slots.items n (get nat_eq old.numbers n) same (named.each n)) }
+
+  -- a number of no row goes
+  pub named-unused : (n : ℕ) → ((j : ℕ) → slot_at new.slots.items j ≡ slot_at old.slots.items j) → is_numbered n (entries_of old.slots.items) ≡ false
+      → Renames old.numbers new.numbers n None → AreNamed new.slots.items new.numbers
+  named-unused n same fresh r = record {
+    each = λ m. elim (cases_eq m n) [
+      | inl e ↦ rw (e, r.here) (λ j there. not_there n old.slots.items fresh j (subst (HasNumber n) (same j) there))
+      | inr ne ↦ rw (r.others m ne) (slot_of-same old.slots.items new.slots.items m (get nat_eq old.numbers m) same (named.each m))
+    ];
+  }
+
+  -- a row with a new number fills an empty slot
+  named-filled : (k : ℕ) (s : Slot) → ((j : ℕ) → j ≢ k → slot_at new.slots.items j ≡ slot_at old.slots.items j) → slot_at old.slots.items k ≡ None → slot_at new.slots.items k ≡ Some s
+      → Renames old.numbers new.numbers s.number.0 (Some k) → AreNamed new.slots.items new.numbers
+  named-filled k s others empty at r = record {
+    each = λ n. elim (cases_eq n s.number.0) [
+      | inl e ↦ rw (e, r.here) (subst (HasNumber s.number.0) (sym at) refl)
+      | inr ne ↦ rw (r.others n ne) (slot_of-other old.slots.items new.slots.items k n (get nat_eq old.numbers n) others
+          (λ has. subst (HasNumber n) empty has) (λ has. ne (sym (subst (HasNumber n) at has))) (named.each n))
+    ];
+  }
+
+  -- the only row with a number goes
+  named-removed : (k n : ℕ) → ((j : ℕ) → j ≢ k → slot_at new.slots.items j ≡ slot_at old.slots.items j) → slot_at new.slots.items k ≡ None → HasNumber n (slot_at old.slots.items k)
+      → ((j m : ℕ) → HasNumber m (slot_at old.slots.items j) → HasNumber m (slot_at old.slots.items k) → j ≡ k) → ((m : ℕ) → HasNumber m (slot_at old.slots.items k) → m ≡ n)
+      → Renames old.numbers new.numbers n None → AreNamed new.slots.items new.numbers
+  named-removed k n others empty has only one r = record {
+    each = λ m. elim (cases_eq m n) [
+      | inl e ↦ rw (e, r.here) (λ j there. elim (cases_eq j k) [
+        | inl same ↦ subst (HasNumber n) (ap (slot_at new.slots.items) same ∙ empty) there
+        | inr ne ↦ ne (only j n (subst (HasNumber n) (others j ne) there) has)
+      ])
+      | inr ne ↦ rw (r.others m ne) (slot_of-other old.slots.items new.slots.items k m (get nat_eq old.numbers m) others
+          (λ there. ne (one m there)) (λ there. subst (HasNumber m) empty there) (named.each m))
+    ];
+  }
 
 -- ---- an empty slot more
 
@@ -156,14 +233,14 @@ without-absent n (Some s ∷ slots) h =
     let other : (s.number.0 == n) ≡ false = ne_eqb s.number.0 n (λ e. h 0 e) in
     rw other (ap (λ es. entry_of s ∷ es) (without-absent n slots (λ j k. h (suc j) k)))
 
--- ---- the four changes
+-- ---- the changes
 
 module _ (vars : ℕ) (old new : Store) (before after : List ℕ) (ready : IsReady vars old before) where
   weaken_within : (n : ℕ) → length old.slots.items ≤ n → (os : List Occurrence) → All (λ (o : Occurrence). o.slot < length old.slots.items) os → All (λ (o : Occurrence). o.slot < n) os
   weaken_within n le os a = All-weaker (λ (o : Occurrence). o.slot < length old.slots.items) (λ (o : Occurrence). o.slot < n) (λ o h. omega arith) os a
 
-  pub opened : new.slots.items ≡ old.slots.items ++ None ∷ [] → new.lists.items ≡ old.lists.items → new.tight.items ≡ old.tight.items → after ≡ before ++ 0 ∷ [] → IsReady vars new after
-  opened slots lists tight sums =
+  pub opened : new.slots.items ≡ old.slots.items ++ None ∷ [] → new.lists.items ≡ old.lists.items → new.tight.items ≡ old.tight.items → new.numbers ≡ old.numbers → after ≡ before ++ 0 ∷ [] → IsReady vars new after
+  opened slots lists tight numbers sums =
       let k : ℕ = length old.slots.items in
       let longer : length new.slots.items ≡ length old.slots.items + 1 = ap length slots ∙ length_push old.slots.items None in
       let same : (j : ℕ) → slot_at new.slots.items j ≡ slot_at old.slots.items j = λ j. ap (λ (x : Slots). slot_at x j) slots ∙ slot_at-more old.slots.items j in
@@ -174,6 +251,7 @@ module _ (vars : ℕ) (old new : Store) (before after : List ℕ) (ready : IsRea
         others = λ j ne. same j;
         here = same k ∙ empty;
         over = tt;
+        named = named-same old new ready.kept.named same (λ n. rw numbers refl);
         alone = λ j n ne h i. h;
         fits = omega arith;
         lists_others = λ l j ne. ap (λ (x : List (Vec Occurrence Global)). coef_for j (list_at x (place_of l))) lists;
@@ -190,14 +268,17 @@ module _ (vars : ℕ) (old new : Store) (before after : List ℕ) (ready : IsRea
 
   pub filled : (k : ℕ) (s : Slot) → k < length old.slots.items → slot_at old.slots.items k ≡ None → is_numbered s.number.0 (entries_of old.slots.items) ≡ false → IsOver vars s.row
       → coef_sum s.row.terms ≤ 2 ^ 120 → new.slots.items ≡ set old.slots.items k (Some s) → IsListedAt k s.row old.lists.items new.lists.items new.tight.items
-      → NotesAtMost k old.tight.items new.tight.items → after ≡ set before k (coef_sum s.row.terms) → IsReady vars new after
-  filled k s h empty fresh over fits slots listed notes sums =
+      → NotesAtMost k old.tight.items new.tight.items → Renames old.numbers new.numbers s.number.0 (Some k) → after ≡ set before k (coef_sum s.row.terms) → IsReady vars new after
+  filled k s h empty fresh over fits slots listed notes renames sums =
       let count : length new.slots.items ≡ length old.slots.items = ap length slots ∙ length-set old.slots.items k (Some s) in
+      let others : (j : ℕ) → j ≢ k → slot_at new.slots.items j ≡ slot_at old.slots.items j = λ j ne. ap (λ (x : Slots). slot_at x j) slots ∙ get_or-set_other old.slots.items k j (Some s) None ne in
+      let here : slot_at new.slots.items k ≡ Some s = ap (λ (x : Slots). slot_at x k) slots ∙ get_or-set_same old.slots.items k (Some s) None h in
       changed vars old new before after k (Some s) ready (record {
         longer = omega (arith, count);
-        others = λ j ne. ap (λ (x : Slots). slot_at x j) slots ∙ get_or-set_other old.slots.items k j (Some s) None ne;
-        here = ap (λ (x : Slots). slot_at x k) slots ∙ get_or-set_same old.slots.items k (Some s) None h;
+        others = others;
+        here = here;
         over = over;
+        named = named-filled old new ready.kept.named k s others empty here renames;
         alone = λ j n ne a b. not_there s.number.0 old.slots.items fresh j (subst (λ (m : ℕ). HasNumber m (slot_at old.slots.items j)) (sym a) b);
         fits = fits;
         lists_others = λ l j ne. let q : (j == k) ≡ false = ne_eqb j k ne in let e = rw q at (listed.entered.coefs l j) in omega (arith, e);
@@ -218,8 +299,8 @@ module _ (vars : ℕ) (old new : Store) (before after : List ℕ) (ready : IsRea
       })
 
   pub restored : (k : ℕ) (terms : List Term) → k < length old.slots.items → slot_at old.slots.items k ≡ None → new.slots.items ≡ old.slots.items → IsRestored k terms old.lists.items new.lists.items
-      → new.tight.items ≡ old.tight.items → after ≡ before → IsReady vars new after
-  restored k terms h empty slots r tight sums =
+      → new.tight.items ≡ old.tight.items → (n : ℕ) → is_numbered n (entries_of old.slots.items) ≡ false → Renames old.numbers new.numbers n None → after ≡ before → IsReady vars new after
+  restored k terms h empty slots r tight n fresh renames sums =
       let count : length new.slots.items ≡ length old.slots.items = ap length slots in
       let none : (l : Lit) → coef_for k (list_at old.lists.items (place_of l)) ≡ 0 = λ l. ready.kept.listed.coefs l k ∙ ap (λ (o : Option Slot). weight_on l (terms_of o)) empty in
       changed vars old new before after k None ready (record {
@@ -227,6 +308,7 @@ module _ (vars : ℕ) (old new : Store) (before after : List ℕ) (ready : IsRea
         others = λ j ne. ap (λ (x : Slots). slot_at x j) slots;
         here = ap (λ (x : Slots). slot_at x k) slots ∙ empty;
         over = tt;
+        named = named-unused old new ready.kept.named n (λ j. ap (λ (x : Slots). slot_at x j) slots) fresh renames;
         alone = λ j n ne h i. h;
         fits = omega arith;
         lists_others = λ l j ne.
@@ -248,14 +330,18 @@ module _ (vars : ℕ) (old new : Store) (before after : List ℕ) (ready : IsRea
       })
 
   pub removed : (k : ℕ) (s : Slot) → k < length old.slots.items → slot_at old.slots.items k ≡ Some s → new.slots.items ≡ set old.slots.items k None → AreLeft k s.row.terms old.lists.items new.lists.items
-      → new.tight.items ≡ filter (λ j. not (j == k)) old.tight.items → after ≡ set before k 0 → IsReady vars new after
-  removed k s h at slots left tight sums =
+      → new.tight.items ≡ filter (λ j. not (j == k)) old.tight.items → Renames old.numbers new.numbers s.number.0 None → after ≡ set before k 0 → IsReady vars new after
+  removed k s h at slots left tight renames sums =
       let count : length new.slots.items ≡ length old.slots.items = ap length slots ∙ length-set old.slots.items k None in
+      let others : (j : ℕ) → j ≢ k → slot_at new.slots.items j ≡ slot_at old.slots.items j = λ j ne. ap (λ (x : Slots). slot_at x j) slots ∙ get_or-set_other old.slots.items k j None None ne in
+      let here : slot_at new.slots.items k ≡ None = ap (λ (x : Slots). slot_at x k) slots ∙ get_or-set_same old.slots.items k None None h in
+      let has : HasNumber s.number.0 (slot_at old.slots.items k) = subst (HasNumber s.number.0) (sym at) refl in
       changed vars old new before after k None ready (record {
         longer = omega (arith, count);
-        others = λ j ne. ap (λ (x : Slots). slot_at x j) slots ∙ get_or-set_other old.slots.items k j None None ne;
-        here = ap (λ (x : Slots). slot_at x k) slots ∙ get_or-set_same old.slots.items k None None h;
+        others = others;
+        here = here;
         over = tt;
+        named = named-removed old new ready.kept.named k s.number.0 others here has (λ j m a b. ready.kept.slots.distinct j k m a b) (λ m there. sym (subst (HasNumber m) at there)) renames;
         alone = λ j n ne h i. h;
         fits = omega arith;
         lists_others = λ l j ne. left-other k s.row.terms old.lists.items new.lists.items left j (place_of l) ne;

@@ -1,14 +1,26 @@
--- By literal, the rows in which it occurs; the rows to look at first; and the sums of the coefficients.
-use Rattle.std.specs.Prelude.{◌≡◌, ◌≤◌, ◌<◌, ◌+◌, ◌*◌, ◌==◌, ◌⊎◌, ℕ, Bool, not, filter, if◌then◌else◌, List, [], ◌∷◌, length, map, slice_index_or, IsFalse}
+-- By number, the slot of a row; by literal, the rows in which it occurs; the rows to look at first; and the sums of the coefficients.
+use Rattle.std.specs.Prelude.{◌≡◌, ◌≤◌, ◌<◌, ◌+◌, ◌*◌, ◌==◌, ◌⊎◌, ℕ, Bool, not, filter, if◌then◌else◌, List, [], ◌∷◌, Option, Some, None, length, map, nat_eq, slice_index_or, IsFalse}
 use Rattle.std.specs.declared.vec.Vec.{Vec}
 use Rattle.std.specs.List.{All, list_any}
+use Rattle.std.specs.HashMap.{HashMap, get}
 use Rattle.hrt_base.specs.declared.literal.Lit.{Lit}
 use Rattle.hrt_base.specs.declared.literal.Term.{Term}
 use Rattle.pb_rows.specs.Terms.{coef_sum, weight}
 use Rattle.pb_rows.specs.Closure.{Literals, among, is_same_lit, none, nonfalse_sum}
 use Rattle.rup_engine.specs.declared.store.Occurrence.{Occurrence}
 use Rattle.rup_engine.specs.declared.store.Store.{Store}
-use Rattle.rup_engine.specs.Slots.{AreSlots, IsSteadySlot, Slots, slot_at, terms_of}
+use Rattle.rup_engine.specs.Slots.{AreSlots, HasNumber, IsSteadySlot, Slots, slot_at, terms_of}
+
+-- ---- numbers
+
+-- the slot's row has the number, or no row has it
+abbrev pub IsSlotOf : Slots → ℕ → Option ℕ → Type 0
+IsSlotOf slots n None = (k : ℕ) → HasNumber n (slot_at slots k) → ⊥
+IsSlotOf slots n (Some k) = HasNumber n (slot_at slots k)
+
+-- each number is kept with the slot of its row, and no other number is
+pub record AreNamed {S : Type 0} (slots : Slots) (numbers : HashMap ℕ ℕ S) : Type 0 where
+  pub each : (n : ℕ) → IsSlotOf slots n (get nat_eq numbers n)
 
 -- ---- occurrences
 
@@ -49,6 +61,7 @@ pub record AreTight (slots : Slots) (places : List ℕ) : Type 0 where
 -- what a store keeps, over so many variables
 pub record IsStore (vars : ℕ) (store : Store) : Type 0 where
   pub slots : AreSlots vars store.slots.items
+  pub named : AreNamed store.slots.items store.numbers
   pub places : length store.lists.items ≡ 2 * vars + 2
   pub listed : AreListed store.slots.items store.lists.items
   pub tight : AreTight store.slots.items store.tight.items

@@ -1,4 +1,4 @@
-// The live rows, and by literal the rows in which it occurs.
+// The live rows, by number and by slot, and by literal the rows in which it occurs.
 ghost use Rattle.std.specs.Prelude.{◌≡◌};
 ghost use Rattle.rup_engine.specs.Store.{place_of};
 
@@ -6,6 +6,7 @@ use crate::lists::empty_lists;
 use hrt_base::{Lit, NoMemory, RowNo};
 use pb_rows::Row;
 use std::alloc::Global;
+use std::collections::HashMap;
 
 /// A live row and its number.
 #[derive(Drop)]
@@ -21,11 +22,12 @@ pub struct Occurrence {
     pub coef: u128,
 }
 
-/// The live rows by slot, the occurrences of each literal, and the slots of the rows that propagate, or are falsified, while
-/// no literal is true. An empty slot held a row that was removed.
+/// The live rows by slot, the slot of each number, the occurrences of each literal, and the slots of the rows that propagate,
+/// or are falsified, while no literal is true. An empty slot held a row that was removed.
 #[derive(Drop)]
 pub struct Store {
     pub slots: Vec<Option<Slot>>,
+    pub numbers: HashMap<u64, usize>,
     pub lists: Vec<Vec<Occurrence>>,
     pub tight: Vec<usize>,
 }
@@ -49,6 +51,7 @@ impl Store {
     {
         Ok(Store {
             slots: Vec::new(alloc),
+            numbers: HashMap::new(alloc),
             lists: empty_lists(alloc, 2 * vars as usize + 2)?,
             tight: Vec::new(alloc),
         })

@@ -8,14 +8,15 @@ ghost use Rattle.pb_rows.specs.Formula.{is_numbered, row_of, without};
 ghost use Rattle.rup_engine.specs.Live.{IsOver};
 ghost use Rattle.rup_engine.specs.Propagation.{IsSteady};
 ghost use Rattle.rup_engine.specs.Slots.{HasNumber, entries_of, entry_of, slot_at};
-ghost use Rattle.rup_engine.specs.Adding.{IsListedAt, IsReady, IsRestored, NotesAtMost};
-ghost use Rattle.rup_engine.specs.Store.{AreNamed, is_one_of, place_of};
+ghost use Rattle.rup_engine.specs.Adding.{IsListedAt, IsReady, NotesAtMost};
+ghost use Rattle.rup_engine.specs.Store.{AreAdded, AreNamed, is_one_of, list_at, place_of};
 
-use crate::lists::{enter, leave};
+use crate::lists::enter;
 use crate::opposite::total;
 use crate::progress::Progress;
 use crate::propagation::weight_of;
 use crate::store::{Slot, Store};
+use crate::thinning::forget;
 use crate::visit::degree_of;
 use hrt_base::{NoMemory, RowNo, Term};
 use pb_rows::Row;
@@ -88,6 +89,7 @@ fn open_slot(store: &mut Store, progress: &mut Progress) -> Result<usize, NoMemo
     ensures entries { entries_of store.new.slots.items ≡ entries_of store.old.slots.items }
     ensures place { IfOk result (λ k. k + 1 ≡ length store.new.slots.items) }
     ensures empty { IfOk result (λ k. slot_at store.new.slots.items k ≡ None) }
+    ensures bare { IfOk result (λ k. (p : ℕ) → All (λ o. o.slot < k) (list_at store.new.lists.items p)) }
 {
     progress.sums.push(0)?;
     let place = store.slots.len();
@@ -95,31 +97,20 @@ fn open_slot(store: &mut Store, progress: &mut Progress) -> Result<usize, NoMemo
     Ok(place)
 }
 
-/// Lists the row of a slot, or leaves all lists as good as they were.
+/// Lists the row of a slot. Where memory is wanting, some of its occurrences may stay.
 fn list_row(store: &mut Store, place: usize, row: &Row) -> Result<(), NoMemory>
     requires places { All (λ t. place_of t.lit < length store.old.lists.items) row.now.terms }
     ensures slots { store.new.slots.items ≡ store.old.slots.items }
     ensures numbers { store.new.numbers ≡ store.old.numbers }
     ensures ok { OnOk result (IsListedAt place row.now store.old.lists.items store.new.lists.items store.new.tight.items) }
     ensures grows { NotesAtMost place store.old.tight.items store.new.tight.items }
-    ensures err { OnErr result (IsRestored place row.now.terms store.old.lists.items store.new.lists.items) }
+    ensures err { OnErr result (AreAdded place store.old.lists.items store.new.lists.items) }
+    ensures stale { store.new.stale ≡ store.old.stale }
     ensures tight { OnErr result (store.new.tight.items ≡ store.old.tight.items) }
 {
-    let terms = row.terms();
-    match enter(&mut store.lists, place, terms) {
-        Ok(()) => {}
-        Err(_) => {
-            leave(&mut store.lists, place, terms);
-            return Err(NoMemory);
-        }
-    }
-    match note_tight(&mut store.tight, place, row) {
-        Ok(()) => Ok(()),
-        Err(_) => {
-            leave(&mut store.lists, place, terms);
-            Err(NoMemory)
-        }
-    }
+    enter(&mut store.lists, place, row.terms())?;
+    note_tight(&mut store.tight, place, row)?;
+    Ok(())
 }
 
 /// Puts a row into the last slot, which is empty.
@@ -132,6 +123,7 @@ fn fill_slot(
     requires ready { IsReady progress.old.trail.vars store.old progress.old.sums.items }
     requires place { place + 1 ≡ length store.old.slots.items }
     requires empty { slot_at store.old.slots.items place ≡ None }
+    requires bare { (p : ℕ) → All (λ o. o.slot < place) (list_at store.old.lists.items p) }
     requires fresh { IsFalse (is_numbered slot.number.0 (entries_of store.old.slots.items)) }
     requires over { IsOver progress.old.trail.vars slot.row }
     ensures ready { IsReady progress.old.trail.vars store.new progress.new.sums.items }
@@ -173,7 +165,7 @@ pub fn add_row(store: &mut Store, progress: &mut Progress, slot: Slot) -> Result
     }
 }
 
-/// Removes the row of a slot, which has the number.
+/// Removes the row of a slot, which has the number. It takes time for each term, and on the whole for no other row.
 pub fn remove_row(store: &mut Store, progress: &mut Progress, place: usize, id: RowNo)
     requires ready { IsReady progress.old.trail.vars store.old progress.old.sums.items }
     requires place { place < length store.old.slots.items }
@@ -187,7 +179,6 @@ pub fn remove_row(store: &mut Store, progress: &mut Progress, place: usize, id: 
         return;
     };
     store.numbers.remove(&id.0);
-    leave(&mut store.lists, place, slot.row.terms());
-    store.tight.retain(|j| *j != place);
     progress.sums[place] = 0;
+    forget(store, slot.row.terms());
 }

@@ -1,19 +1,20 @@
 -- Lists of occurrences that change.
-use Rattle.std.proofs.Common.{◌≡◌, ◌∙◌, ◌≤◌, ◌<◌, ◌+◌, ◌*◌, ◌==◌, ◌&&◌, ◌⊎◌, ℕ, zero, suc, Bool, true, false, not, if◌then◌else◌, List, [], ◌∷◌, ◌++◌, length, map, take, get_or, refl, sym, ap, arith, inl, inr, add-one, eq-eqb, pos}
+use Rattle.std.proofs.Common.{◌≡◌, ◌∙◌, ◌<◌, ◌+◌, ◌*◌, ◌==◌, ◌&&◌, ℕ, zero, suc, Bool, true, false, not, filter, is_some, Option, Some, None, if◌then◌else◌, List, [], ◌∷◌, ◌++◌, length, map, take, get_or, refl, sym, ap, arith, inl, inr, add-one, eq-eqb}
 use Rattle.std.specs.declared.vec.Vec.{Vec}
-use Rattle.std.specs.List.{All}
 use Rattle.std.proofs.Math.ListN.{set}
-use Rattle.std.proofs.lemmas.Bool.{cases_Bool, cases_eq, cases_lt, eqb-true, ne_eqb}
+use Rattle.std.proofs.lemmas.Bool.{cases_Bool, cases_eq, cases_lt, ne_eqb, or_from, or_parts}
 use Rattle.std.proofs.lemmas.List.{length-map, map-set, map-append, get_or-map, get_or-set_same, get_or-set_other, get_or_append_left, get_or_push, get_or_past, length_push}
-use Rattle.std.proofs.lemmas.List.Elements.{All-filter, All-more, All-nil, All-push, All-same, All-weaker}
+use Rattle.std.proofs.lemmas.List.Elements.{All-filter, All-push, All-same}
 use Rattle.hrt_base.specs.declared.literal.Lit.{Lit}
 use Rattle.hrt_base.specs.declared.literal.Term.{Term}
-use Rattle.pb_rows.specs.Terms.{weight}
+use Rattle.pb_rows.specs.Terms.{coef_sum, weight}
 use Rattle.rup_engine.specs.declared.store.Occurrence.{Occurrence}
-use Rattle.pb_rows.specs.Closure.{is_same_lit}
-use Rattle.rup_engine.specs.Store.{AreEntered, AreLeft, coef_for, list_at, place_of, weight_on, without_slot}
-use Rattle.rup_engine.proofs.Sets.{lit_apart, lit_is}
-use Rattle.rup_engine.proofs.Occurrences.{part-elsewhere, part-here, part_for}
+use Rattle.rup_engine.specs.declared.store.Slot.{Slot}
+use Rattle.rup_engine.specs.Slots.{IsSteadySlot, Slots, slot_at, terms_of}
+use Rattle.pb_rows.specs.Closure.{is_same_lit, none}
+use Rattle.rup_engine.specs.Store.{AreAdded, AreEntered, AreListed, AreTight, coef_for, in_use, is_one_of, list_at, place_of, weight_on}
+use Rattle.rup_engine.proofs.Sets.{lit_apart}
+use Rattle.rup_engine.proofs.Occurrences.{in_use-twice, part-elsewhere, part-here, part_for}
 
 abbrev items_of : {T A : Type 0} → List (Vec T A) → List (List T)
 items_of lists = map (λ list. list.items) lists
@@ -142,86 +143,49 @@ entered-same k ts old mid new a count same = record {
   count = count ∙ a.count;
 }
 
--- ---- leaving
+pub entered-added : {A : Type 0} (k : ℕ) (ts : List Term) (old new : List (Vec Occurrence A)) → AreEntered k ts old new → AreAdded k old new
+entered-added k ts old new a = record {
+  others = λ l j ne. let q : (j == k) ≡ false = ne_eqb j k ne in let e = rw q at (a.coefs l j) in omega (arith, e);
+  within = a.within;
+  count = a.count;
+}
 
-without-twice : (k : ℕ) (os : List Occurrence) → without_slot k (without_slot k os) ≡ without_slot k os
-without-twice k [] = refl
-without-twice k (o ∷ os) = elim (cases_Bool (o.slot == k)) [ inl e ↦ rw e (without-twice k os) | inr e ↦ rw (e, e) (ap (λ x. o ∷ x) (without-twice k os)) ]
+-- ---- thinning
 
-coef_for-without : (j k : ℕ) (os : List Occurrence) → (j ≡ k → ⊥) → coef_for j (without_slot k os) ≡ coef_for j os
-coef_for-without j k [] ne = refl
-coef_for-without j k (o ∷ os) ne = elim (cases_Bool (o.slot == k)) [
-  | inl e ↦
-      let other : (o.slot == j) ≡ false = ne_eqb o.slot j (λ same. ne (sym same ∙ eqb-true o.slot k e)) in
-      rw (e, other) (omega (arith, coef_for-without j k os ne))
-  | inr e ↦ rw e (omega (arith, coef_for-without j k os ne))
-]
-
-coef_for-gone : (k : ℕ) (os : List Occurrence) → coef_for k (without_slot k os) ≡ 0
-coef_for-gone k [] = refl
-coef_for-gone k (o ∷ os) = elim (cases_Bool (o.slot == k)) [ inl e ↦ rw e (coef_for-gone k os) | inr e ↦ rw (e, e) (omega (arith, coef_for-gone k os)) ]
-
-pub left-none : {A : Type 0} (k : ℕ) (ts : List Term) (lists : List (Vec Occurrence A)) → AreLeft k (take 0 ts) lists lists
-left-none k ts lists = record { each = λ p. inl refl; gone = none ts; count = refl }
-  where
-    none : (ts : List Term) → All (λ (t : Term). list_at lists (place_of t.lit) ≡ without_slot k (list_at lists (place_of t.lit))) (take 0 ts)
-    none [] = All-nil _
-    none (t ∷ ts) = All-nil _
-
-pub left-more : {A : Type 0} (k : ℕ) (ts : List Term) (i : ℕ) (d : Term) (old mid new : List (Vec Occurrence A)) → i < length ts → AreLeft k (take i ts) old mid → length new ≡ length mid
-    → ((p : ℕ) → list_at new p ≡ (if p == place_of (get_or ts i d).lit then without_slot k (list_at mid p) else list_at mid p)) → AreLeft k (take (i + 1) ts) old new
-left-more k ts i d old mid new h a count dropped = record {
-  each = λ p. elim (cases_Bool (p == place)) [
-    | inl e ↦ inr (dropped_at p e)
-    | inr e ↦ elim (a.each p) [ inl f ↦ inl (kept_at p e ∙ f) | inr f ↦ inr (kept_at p e ∙ f) ]
-  ];
-  gone = All-more (λ (t : Term). list_at new (place_of t.lit) ≡ without_slot k (list_at old (place_of t.lit))) ts i d h
-      (All-weaker (λ (t : Term). list_at mid (place_of t.lit) ≡ without_slot k (list_at old (place_of t.lit))) (λ (t : Term). list_at new (place_of t.lit) ≡ without_slot k (list_at old (place_of t.lit)))
-      (λ t f. still (place_of t.lit) f) (take i ts) a.gone)
-      (dropped_at place (eq-eqb place place refl));
-  count = count ∙ a.count;
+-- a list that loses its occurrences of removed rows is as good
+pub thinned-listed : {A : Type 0} (slots : Slots) (place : ℕ) (old new : List (Vec Occurrence A)) → ((p : ℕ) → list_at new p ≡ (if p == place then in_use slots (list_at old p) else list_at old p))
+    → AreListed slots old → AreListed slots new
+thinned-listed {A} slots place old new thinned a = record {
+  coefs = λ l k. ap (coef_for k) (same (place_of l)) ∙ a.coefs l k;
+  within = λ p.
+      let P : Occurrence → Type 0 = λ o. o.slot < length slots in
+      elim (cases_Bool (p == place)) [
+        | inl e ↦ All-same P (list_at new p) (in_use slots (list_at old p)) (thinned p ∙ ap (chosen (in_use slots (list_at old p)) (list_at old p)) e) (All-filter (λ o. is_some (slot_at slots o.slot)) P (list_at old p) (a.within p))
+        | inr e ↦ All-same P (list_at new p) (list_at old p) (thinned p ∙ ap (chosen (in_use slots (list_at old p)) (list_at old p)) e) (a.within p)
+      ];
 }
   where
-    place : ℕ
-    place = place_of (get_or ts i d).lit
+    same : (p : ℕ) → in_use slots (list_at new p) ≡ in_use slots (list_at old p)
+    same p = elim (cases_Bool (p == place)) [
+      | inl e ↦ ap (in_use slots) (thinned p ∙ ap (chosen (in_use slots (list_at old p)) (list_at old p)) e) ∙ in_use-twice slots (list_at old p)
+      | inr e ↦ ap (in_use slots) (thinned p ∙ ap (chosen (in_use slots (list_at old p)) (list_at old p)) e)
+    ]
 
-    kept_at : (p : ℕ) → (p == place_of (get_or ts i d).lit) ≡ false → list_at new p ≡ list_at mid p
-    kept_at p e = dropped p ∙ ap (chosen (without_slot k (list_at mid p)) (list_at mid p)) e
-
-    dropped_at : (p : ℕ) → (p == place_of (get_or ts i d).lit) ≡ true → list_at new p ≡ without_slot k (list_at old p)
-    dropped_at p e = dropped p ∙ ap (chosen (without_slot k (list_at mid p)) (list_at mid p)) e ∙ elim (a.each p) [ inl f ↦ ap (without_slot k) f | inr f ↦ ap (without_slot k) f ∙ without-twice k (list_at old p) ]
-
-    still : (p : ℕ) → list_at mid p ≡ without_slot k (list_at old p) → list_at new p ≡ without_slot k (list_at old p)
-    still p f = elim (cases_Bool (p == place_of (get_or ts i d).lit)) [ inl e ↦ dropped_at p e | inr e ↦ kept_at p e ∙ f ]
-
--- the literal isn't among the terms, or stands at a place
-weight_on-cases : (l : Lit) (ts : List Term) → (weight_on l ts ≡ 0) ⊎ ((i : ℕ) × (i < length ts) × ((d : Term) → (get_or ts i d).lit ≡ l))
-weight_on-cases l [] = inl refl
-weight_on-cases l (t ∷ ts) = elim (cases_Bool (is_same_lit l t.lit)) [
-  | inl e ↦ inr (0, omega arith, λ d. sym (lit_is l t.lit e))
-  | inr e ↦ elim (weight_on-cases l ts) [ inl none ↦ inl (rw e (omega (arith, none))) | inr at ↦ inr (at.0 + 1, omega (arith, at.1), λ d. rw add-one (at.2 d)) ]
+one_of-full : (slots : Slots) (k : ℕ) (tight : List ℕ) → is_some (slot_at slots k) ≡ true → is_one_of k (filter (λ j. is_some (slot_at slots j)) tight) ≡ false → is_one_of k tight ≡ false
+one_of-full slots k [] full h = refl
+one_of-full slots k (j ∷ js) full h = elim (cases_Bool (is_some (slot_at slots j))) [
+  | inl e ↦ let p = or_parts (j == k) (is_one_of k (filter (λ i. is_some (slot_at slots i)) js)) (rw e at h) in or_from (j == k) (is_one_of k js) p.0 (one_of-full slots k js full p.1)
+  | inr e ↦
+      let apart : (j == k) ≡ false = ne_eqb j k (λ same. absurd (let bad : false ≡ true = sym e ∙ ap (λ (i : ℕ). is_some (slot_at slots i)) same ∙ full in cc)) in
+      or_from (j == k) (is_one_of k js) apart (one_of-full slots k js full (rw e at h))
 ]
 
-module _ {A : Type 0} (k : ℕ) (ts : List Term) (old new : List (Vec Occurrence A)) (a : AreLeft k ts old new) where
-  pub left-other : (j p : ℕ) → (j ≡ k → ⊥) → coef_for j (list_at new p) ≡ coef_for j (list_at old p)
-  left-other j p ne = elim (a.each p) [ inl e ↦ ap (coef_for j) e | inr e ↦ ap (coef_for j) e ∙ coef_for-without j k (list_at old p) ne ]
-
-  pub left-gone : (l : Lit) → coef_for k (list_at old (place_of l)) ≤ weight_on l ts → coef_for k (list_at new (place_of l)) ≡ 0
-  left-gone l most = elim (a.each (place_of l)) [
-    | inr e ↦ ap (coef_for k) e ∙ coef_for-gone k (list_at old (place_of l))
-    | inl e ↦ elim (weight_on-cases l ts) [
-      | inl none ↦ omega (arith, ap (coef_for k) e, most, none)
-      | inr at ↦
-          let d : Term = record { coef = pos 0; lit = l } in
-          let f : list_at new (place_of l) ≡ without_slot k (list_at old (place_of l)) = rw (at.2 d) at (a.gone at.0 d at.1) in
-          ap (coef_for k) f ∙ coef_for-gone k (list_at old (place_of l))
-    ]
-  ]
-
-  pub left-within : (n : ℕ) → ((p : ℕ) → All (λ (o : Occurrence). o.slot < n) (list_at old p)) → (p : ℕ) → All (λ (o : Occurrence). o.slot < n) (list_at new p)
-  left-within n all p =
-      let P : Occurrence → Type 0 = λ o. o.slot < n in
-      elim (a.each p) [
-        | inl e ↦ All-same P (list_at new p) (list_at old p) e (all p)
-        | inr e ↦ All-same P (list_at new p) (without_slot k (list_at old p)) e (All-filter (λ o. not (o.slot == k)) P (list_at old p) (all p))
-      ]
+pub thinned-tight : (slots : Slots) (old new : List ℕ) → new ≡ filter (λ j. is_some (slot_at slots j)) old → AreTight slots old → AreTight slots new
+thinned-tight slots old new is a = rw is (record {
+  others = λ k out. by k (slot_at slots k) refl out;
+  within = All-filter (λ j. is_some (slot_at slots j)) (λ (j : ℕ). j < length slots) old a.within;
+})
+  where
+    by : (k : ℕ) (o : Option Slot) → slot_at slots k ≡ o → is_one_of k (filter (λ j. is_some (slot_at slots j)) old) ≡ false → IsSteadySlot none (coef_sum (terms_of (slot_at slots k))) (slot_at slots k)
+    by k None at out = rw at tt
+    by k (Some s) at out = a.others k (one_of-full slots k old (ap (λ (o : Option Slot). is_some o) at) out)

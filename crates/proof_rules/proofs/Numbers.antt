@@ -73,4 +73,3 @@ live_within k next row live order e = (
     | inr past ↦ let none : row_of k live ≡ None = none-from k 1 next live past order in absurd (cc)
   ],
 )
-

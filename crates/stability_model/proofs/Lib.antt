@@ -7,6 +7,7 @@ pub mod Growing
 pub mod Places
 pub mod TermCount
 mod PairTerms
+mod RowSizes
 pub mod Counts
 pub mod PairNumbers
 pub mod GoneInNone

@@ -9,6 +9,7 @@ use Rattle.rank_tables.specs.declared.marks.Mark.{Mark}
 use Rattle.rank_tables.specs.Numbers.{below, numbers_to}
 use Rattle.rank_tables.specs.Instance.{Lists, rank_in}
 
+-- a value, and the number under which it is kept
 abbrev pub mark_of : ℕ → ℕ → Mark
 mark_of number value = record { number = number; value = value }
 
@@ -28,6 +29,7 @@ marked i marks value = fold (λ v (m : Mark). if m.number == i then m.value else
 abbrev pub cleared : ℕ → List Mark → ℕ → ℕ
 cleared i marks value = fold (λ v (m : Mark). if m.number == i then 0 else v) value marks
 
+-- rows as lists
 abbrev pub rows_of : {T A : Type 0} → List (Vec T A) → List (List T)
 rows_of rows = map (λ row. row.items) rows
 

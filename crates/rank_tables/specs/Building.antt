@@ -48,7 +48,7 @@ hospital_groups hospitals h = unwrap_or (option_map (λ hospital. hospital.group
 abbrev pub naming : ℕ → ℕ → List Mark → List Mark
 naming h r list = map (λ (m : Mark). mark_of h m.value) (filter (λ (m : Mark). m.number == r) list)
 
--- the first n hospitals, those that name resident r, with the ranks that they give it
+-- those of the first n hospitals that name resident r, each with the rank that it gives it
 abbrev pub namings_of : List DraftHospital → ℕ → ℕ → List Mark
 namings_of hospitals n r = flat_map (λ h. naming h r (with_ranks (hospital_groups hospitals h))) (below n)
 

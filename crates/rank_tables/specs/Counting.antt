@@ -38,7 +38,7 @@ counting xs = count_by (λ (x : Ranked). x.counts) xs
 abbrev pub as_high : List Ranked → ℕ
 as_high xs = sum_by (λ (x : Ranked). if x.counts then count_by (λ (y : Ranked). nat_le y.rank x.rank) xs else 0) xs
 
--- the ranks rise from this one on
+-- from this rank on, none is lower than the one before
 abbrev pub IsRising : ℕ → List Ranked → Type 0
 IsRising rank [] = Unit {0}
 IsRising rank (x ∷ xs) = (rank ≤ x.rank) × IsRising x.rank xs

@@ -2,7 +2,7 @@
 use Rattle.std.specs.Prelude.{ℕ, Bool, true, not, ◌&&◌, ◌||◌, ◌==◌, nat_le, List, [], ◌∷◌, length, bytes_eq}
 use Rattle.std.specs.List.{list_all, list_any}
 
--- a visible byte that is none of : ( ) #
+-- a byte from 33 to 126, or from 128 on, that is none of : ( ) #
 abbrev pub is_name_byte : ℕ → Bool
 is_name_byte b =
     (nat_le 33 b && nat_le b 126 || nat_le 128 b && nat_le b 255)

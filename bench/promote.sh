@@ -4,10 +4,7 @@
 # one tie and each hospital its residents in one. With few posts most residents are refused by their whole list twice. It shows
 # that the seconds grow with the pairs. No command does this alone, so a program is built around the library in a copy of the
 # crates that it stands on, which takes a few minutes at first.
-set -eu
-cd "$(dirname "$0")/.."
-work=$(mktemp -d)
-trap 'rm -rf "$work"' EXIT
+. "$(dirname "$0")/common.sh"
 mkdir -p "$work/crates/promoting/src"
 cp HANDLES "$work"
 for crate in hrt_base rank_tables hrt_text hrt_reader promotion_heuristic; do
@@ -50,7 +47,8 @@ fn main(rt: HostRuntime) -> io::Result<()> {
 }
 END
 (cd "$work/crates/promoting" && rt run > "$work/log" 2>&1) || { cat "$work/log"; exit 1; }
-make='
+long_ties() {
+  python3 -c '
 import sys
 path, residents, hospitals, choices, posts = sys.argv[1], *map(int, sys.argv[2:])
 lists = [[(r * choices + k) % hospitals for k in range(choices)] for r in range(residents)]
@@ -65,20 +63,13 @@ with open(path, "w") as file:
     for h, list in enumerate(named):
         file.write(f"hospital h{h} {posts}: (" + " ".join(f"r{r}" for r in list) + ")\n")
     file.write("end\n")
-'
-# In a process of its own, since what a parent holds counts as the peak of its children.
-measure='
-import os, subprocess, sys
-program, path, residents, hospitals, choices, posts = sys.argv[1:]
-run = subprocess.Popen([program, path], stdout=subprocess.PIPE)
-told = run.stdout.read().split()
-_, status, usage = os.wait4(run.pid, 0)
-pairs = int(residents) * int(choices)
-size, read, promoted = map(int, told)
-print(f"{residents:>9} {hospitals:>9} {pairs:7} {posts:>5} {size:6} {read / 1e3:8.2f} {promoted / 1e6:8.3f} {promoted / pairs:8.3f} {usage.ru_maxrss / 1024:9.1f} {os.waitstatus_to_exitcode(status):7}")
-'
+' "$@"
+}
 printf '%9s %9s %7s %5s %6s %8s %8s %8s %9s %7s\n' residents hospitals pairs posts first reading seconds us/pair 'peak MiB' status
 for shape in '5000 400 5 5' '10000 800 5 5' '20000 1600 5 5' '20000 1600 5 1' '20000 1600 5 20' '20000 20000 5 1'; do
-  python3 -c "$make" "$work/i.hrt" $shape
-  python3 -c "$measure" "$work/crates/promoting/out/promoting" "$work/i.hrt" $shape
+  read -r residents hospitals choices posts <<< "$shape"
+  long_ties "$work/i.hrt" $shape
+  read -r _ peak status size reading promoting < <(measured "$work/crates/promoting/out/promoting" "$work/i.hrt")
+  pairs=$((residents * choices))
+  printf '%9s %9s %7s %5s %6s %8.2f %8.3f %8.3f %9s %7s\n' "$residents" "$hospitals" "$pairs" "$posts" "$size" "$(per 1000 "$reading" 1)" "$(per 1e6 "$promoting" 1)" "$(per "$pairs" "$promoting" 1)" "$peak" "$status"
 done

@@ -1,0 +1,54 @@
+# What the benches share: where the program is, a folder for files, instances in ties, and how a run is measured.
+# To be sourced. Build first: rt check in crates/hrt.
+set -eu
+cd "$(dirname "${BASH_SOURCE[0]}")/.."
+program=$PWD/crates/hrt/out/hrt
+work=$(mktemp -d)
+trap 'rm -rf "$work"' EXIT
+
+# measured PROGRAM WORDS..: runs it, and prints the seconds, the peak in MiB, the status, and what it told, in one line. It measures
+# in a process of its own, since what a parent holds counts as the peak of its children.
+measured() {
+  python3 -c '
+import os, subprocess, sys, time
+begun = time.monotonic()
+run = subprocess.Popen(sys.argv[1:], stdout=subprocess.PIPE)
+told = run.stdout.read().decode().split()
+_, status, usage = os.wait4(run.pid, 0)
+seconds = time.monotonic() - begun
+print(f"{seconds:.4f} {usage.ru_maxrss / 1024:.1f} {os.waitstatus_to_exitcode(status)}", *told[:8])
+' "$@"
+}
+
+# per COUNT AMOUNT FACTOR: AMOUNT times FACTOR for each of COUNT
+per() {
+  python3 -c 'import sys; count, amount, factor = map(float, sys.argv[1:]); print(f"{amount * factor / count:.3f}")' "$@"
+}
+
+# mebibytes FILE
+mebibytes() {
+  python3 -c 'import os, sys; print(f"{os.path.getsize(sys.argv[1]) / 2**20:.1f}")' "$1"
+}
+
+# terms_in FILE: how many terms the rows of a model have, its comment and its objective apart
+terms_in() {
+  grep -v -e '^\*' -e '^min:' "$1" | tr -cd x | wc -c
+}
+
+# tied_instance PATH COUNT: as many residents as hospitals, each resident with up to 40 hospitals in one tie, and each hospital
+# with its residents in two
+tied_instance() {
+  python3 -c '
+import sys
+path, count = sys.argv[1], int(sys.argv[2])
+choices = min(count, 40)
+with open(path, "w") as file:
+    file.write("hrt 1\n")
+    for r in range(count):
+        file.write(f"resident r{r}: (" + " ".join(f"h{(r + k) % count}" for k in range(choices)) + ")\n")
+    for h in range(count):
+        names = [f"r{(h - k) % count}" for k in range(choices)]
+        file.write(f"hospital h{h} 3: ({names[0]} {names[1]}) (" + " ".join(names[2:]) + ")\n")
+    file.write("end\n")
+' "$@"
+}

@@ -3,7 +3,7 @@ ghost use Rattle.std.specs.Prelude.{◌≡◌, ◌+◌, ◌<◌, ◌≤◌, ◌^
 ghost use Rattle.std.specs.List.{All, list_all};
 ghost use Rattle.pb_rows.specs.Terms.{IsRisingFrom};
 ghost use Rattle.pb_rows.specs.Closure.{Implies, Refuted, none};
-ghost use Rattle.pb_rows.specs.Formula.{numbered_from, rows_of};
+ghost use Rattle.pb_rows.specs.Formula.{numbered_from};
 ghost use Rattle.opb_text.specs.Limits.{IsWithinLimits, most_rows};
 ghost use Rattle.rup_engine.specs.Live.{IsOver};
 ghost use Rattle.proof_lines.specs.Texts.{is_made_step};
@@ -73,16 +73,6 @@ fn remove_all(alloc: Global, live: &mut Live, ids: &[RowNo]) -> Result<(), Fault
         }
     }
     Ok(())
-}
-
-/// Tells whether a row follows from the live rows by propagation.
-fn follows(alloc: Global, live: &mut Live, row: &Row) -> Result<bool, NoMemory>
-    requires { IsOver live.old.vars row.now }
-    ensures is { IfOk result (λ implied. IsTrue implied ↔ Implies (rows_of live.old.rows) row.now) }
-    ensures same { live.new ≡ live.old }
-{
-    let used = live.refutes(alloc, row)?;
-    Ok(used.is_some())
 }
 
 /// The smaller one of a value and the least before it, if there was one.
@@ -169,7 +159,8 @@ impl State {
         ensures is { IfOk result (λ implied. IsTrue implied ↔ Implies (live_rows self.old.state) row.now) }
         ensures same { self.new ≡ self.old }
     {
-        follows(alloc, &mut self.live, row)
+        let used = self.live.refutes(alloc, row)?;
+        Ok(used.is_some())
     }
 
     /// Tells whether the live rows are refuted.

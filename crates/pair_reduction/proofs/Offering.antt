@@ -232,13 +232,6 @@ has_offers lists deletions p qs live count have distinct within enough = record 
 pub offering_as : (lists : Lists) (start new now : Derived) (deletions : Deletions) (p posts : ℕ) (qs : List ℕ) (ids more : List RowNo) → now ≡ new → more ≡ ids → Offering lists start new deletions p posts qs ids → Offering lists start now deletions p posts qs more
 offering_as lists start new now deletions p posts qs ids more e f o = subst (λ (d : Derived). Offering lists start d deletions p posts qs more) (sym e) (subst (λ (xs : List RowNo). Offering lists start new deletions p posts qs xs) (sym f) o)
 
-pair_push : (ps : List PairNo) (p : PairNo) → numbers_of (ps ++ p ∷ []) ≡ numbers_of ps ++ p.0 ∷ []
-pair_push [] p = refl
-pair_push (x ∷ ps) p = ap (λ (ns : List ℕ). x.0 ∷ ns) (pair_push ps p)
-
-pub next_number : (ps : List PairNo) (i : ℕ) (d : PairNo) → i < length ps → numbers_of (take (i + 1) ps) ≡ numbers_of (take i ps) ++ (get_or ps i d).0 ∷ []
-next_number ps i d h = ap numbers_of (take_more ps i d h) ∙ pair_push (take i ps) (get_or ps i d)
-
 pub is_offering_by : (inst lists : Lists) (deletions : Deletions) (p q x y : ℕ) → inst ≡ lists → x ≡ rank_by_hospital inst q → y ≡ rank_by_hospital inst p → x < y → has_only inst (is_deleted deletions) q ≡ true → is_offering lists deletions p q ≡ true
 is_offering_by inst lists deletions p q x y same e f less only =
     subst (λ (l : Lists). is_offering l deletions p q ≡ true) same

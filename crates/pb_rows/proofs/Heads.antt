@@ -121,6 +121,3 @@ module _ (a b out : List Term) (gone : ℕ) (left right : List Term) where
   merges_last u us el er m =
       let r : IsRisingFrom 0 (u ∷ us) = subst (λ (x : List Term). IsRisingFrom 0 x) er m.right_rises in
       merges_second u us er (rw el (joins_last u us r.2)) m
-
-pub merging_starts : (a b : List Term) → IsRisingFrom 0 a → IsRisingFrom 0 b → coef_sum a ≤ 2 ^ 120 → coef_sum b ≤ 2 ^ 120 → IsMerging a b [] 0 a b
-merging_starts a b l r x y = record { terms = refl; losses = omega arith; left_rises = l; right_rises = r; left_fits = x; right_fits = y }

@@ -27,10 +27,6 @@ sorted_from low (t ∷ ts) first h p = (
   sorted_from t.lit.var ts (λ d lt. h 0 1 d (omega arith) (omega (arith, lt))) (tail_sorted t ts h) p.1,
 )
 
-from_sorted : (low : ℕ) (ts : List Term) → IsSortedFrom low ts → AreFrom 0 ts
-from_sorted low [] s = tt
-from_sorted low (t ∷ ts) s = ((omega arith, s.1), from_sorted t.lit.var ts s.2)
-
 up_to_more : (low high : ℕ) (ts : List Term) → low ≤ high → AreUpTo low ts → AreUpTo high ts
 up_to_more low high [] h a = tt
 up_to_more low high (t ∷ ts) h a = (omega (arith, a.0, h), up_to_more low high ts h a.1)
@@ -87,9 +83,6 @@ pub record IsJoining (ts out : List Term) (gone : ℕ) (left : List Term) : Type
   pub left_from : IsSortedFrom low left
   pub fits : coef_sum out + coef_sum left ≤ 2 ^ 120
 
-pub joining_starts : (ts : List Term) → IsSortedFrom 0 ts → coef_sum ts ≤ 2 ^ 120 → IsJoining ts [] 0 ts
-joining_starts ts s f = record { terms = refl; losses = omega arith; rising = tt; low = 0; out_up_to = tt; left_from = s; fits = omega arith }
-
 remains_up_to : (high n : ℕ) (l : Lit) → l.var ≤ high → AreUpTo high (remains n l)
 remains_up_to high zero l h = tt
 remains_up_to high (suc n) l h = (h, tt)
@@ -120,9 +113,6 @@ joins_next ts out gone left t rest e j =
       left_from = s.2;
       fits = omega (arith, j.fits, x, put_sum t out s.1);
     }
-
-pub joins_end : (ts out : List Term) (gone : ℕ) (left : List Term) → left ≡ [] → IsJoining ts out gone left → (out ≡ put_all [] ts) × (gone ≡ lost_all [] ts)
-joins_end ts out gone left e j = (ap (put_all out) (sym e) ∙ j.terms, omega (arith, j.losses, ap (lost_all out) e))
 
 -- what the last of the list is, under the loop's invariant
 pub next_is : (ts out : List Term) (gone : ℕ) (left : List Term) (t : Term) (rest : List Term) → left ≡ t ∷ rest → IsJoining ts out gone left → AreUpTo t.lit.var out × IsPositive t.coef × (coef_sum out + weight t.coef ≤ 2 ^ 120)

@@ -2,6 +2,7 @@ pub mod Values
 pub mod Order
 pub mod Heads
 pub mod Sums
+pub mod Sizes
 pub mod Changes
 pub mod Signs
 pub mod Lasts

@@ -113,6 +113,22 @@ impl Row {
         }
     }
 
+    /// Makes the row of an inequality as it is written, whose sizes fit: so it fails for want of memory alone.
+    pub fn from_terms_that_fit(
+        alloc: Global,
+        terms: &[Term],
+        at_least: i128,
+    ) -> Result<Row, NoMemory>
+        requires { all_sizes terms.now at_least ≤ 2 ^ 120 }
+        ensures { IfOk result (λ r. r ≡ normal_form terms.now at_least) }
+    {
+        match Row::from_terms(alloc, terms, at_least) {
+            Ok(row) => Ok(row),
+            Err(RowRefusal::NoMemory) => Err(NoMemory),
+            Err(RowRefusal::TooBig) => unreachable!(),
+        }
+    }
+
     /// The terms, by rising variable.
     pub fn terms(&self) -> &[Term]
         ensures terms { result.now ≡ self.now.terms }

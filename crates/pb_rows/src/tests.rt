@@ -35,6 +35,15 @@ fn from_terms_joins(rt: HostRuntime) -> Result<(), Fail> {
 }
 
 #[test]
+fn a_row_that_fits(rt: HostRuntime) -> Result<(), Fail> {
+    let lit = Lit { var: 3, neg: false };
+    let row = Row::from_terms_that_fit(rt.alloc(), &[Term { coef: -2, lit }], -1)?;
+    assert_eq!(rt; row.terms(), [term(2, 3, true)].as_slice());
+    assert_eq!(rt; row.degree(), 1);
+    Ok(())
+}
+
+#[test]
 fn the_worked_operations(rt: HostRuntime) -> Result<(), Fail> {
     let alloc = rt.alloc();
     let mut divided = Row::from_terms(

@@ -1,9 +1,10 @@
 #!/usr/bin/env bash
 # Deletes the pairs of instances of up to 100,000 pairs in 20,000 lists and in 1,000 lists, and prints the seconds that `reduce`
 # takes with its lines, the making of the model and of the derivation apart, beside `steps`: the sum, over pairs, of the lengths of
-# the two lists in which a pair stands. It shows how the seconds grow with that sum. The lists are drawn, with no ties. So long
-# lists have too many terms for the model unless most hospitals have no posts: then one in `every` has them. No command does
-# this alone, so a program is built around the library in a copy of the crates that it stands on, which takes some minutes at first.
+# the two lists in which a pair stands. It shows that the seconds don't grow faster than that sum. The lists are drawn, with no
+# ties. So many pairs in 1,000 lists are within the limit on terms only where most hospitals have no posts: one in `every` has
+# them. In the last two each hospital refuses half of its residents by offers of the other half. No command does this alone, so a
+# program is built around the library in a copy of the crates that it stands on, which takes some minutes at first.
 . "$(dirname "$0")/common.sh"
 mkdir -p "$work/crates/reducing/src"
 cp HANDLES "$work"
@@ -86,7 +87,7 @@ with open(path, "w") as file:
 print(residents * choices * choices + sum(len(list) ** 2 for list in named))
 '
 printf '%9s %9s %7s %5s %5s %8s %9s %8s %8s %8s %9s\n' residents hospitals pairs posts every deleted steps making seconds us/step 'peak MiB'
-for shape in '1000 1000 10 1 1' '10000 10000 10 1 1' '10000 10000 10 2 1' '200 200 80 1 1' '500 500 80 1 1' '500 500 80 5 1' '500 500 200 5 3' '500 500 200 2 3'; do
+for shape in '1000 1000 10 1 1' '10000 10000 10 1 1' '10000 10000 10 2 1' '200 200 80 1 1' '500 500 80 1 1' '500 500 80 5 1' '112 888 888 5 25' '20000 400 1 25 1' '20000 100 1 100 1'; do
   steps=$(python3 -c "$make" "$work/i.hrt" $shape)
   read -r _ peak _ pairs deleted made reduced <<< "$(measured "$work/crates/reducing/out/reducing" "$work/i.hrt")"
   read -r residents hospitals _ posts every <<< "$shape"

@@ -11,10 +11,10 @@ use Rattle.rank_tables.specs.Tables.{numbers_of}
 use Rattle.rank_tables.specs.Instance.{Lists}
 use Rattle.rank_tables.proofs.Numbers.{same_bools}
 use Rattle.stability_model.specs.Gone.{Pairs}
+use Rattle.stability_model.proofs.Counts.{count_alike}
 use Rattle.stability_model.proofs.GoneLocal.{count_same_in}
 use Rattle.pair_reduction.specs.declared.sides.Side.{Side}
 use Rattle.pair_reduction.specs.Sides.{is_free, is_passed, list_of, pairs_on, places, rank_on}
-use Rattle.pair_reduction.proofs.Tested.{count_alike}
 use Rattle.pair_reduction.proofs.TwoSides.{listed_once}
 use Rattle.pair_reduction.specs.Ranks.{AreRanks, AreRising, count_within}
 

@@ -74,10 +74,6 @@ grown_unit before p q id other first last absent e =
 was_deleted : (before : Deletions) (p q : ℕ) (id : RowNo) → 1 ≤ p → p ≤ length before → is_deleted (slice_set before (p - 1) (Some id)) q ≡ true → (q ≡ p → ⊥) → is_deleted before q ≡ true
 was_deleted before p q id first last e other = ap is_some (sym (marked_other before p id first last q other)) ∙ e
 
-some_of : (o : Option RowNo) → is_some o ≡ true → (id : RowNo) × (o ≡ Some id)
-some_of None e = absurd (true≢false (sym e))
-some_of (Some id) e = (id, refl)
-
 one_of : (n k : ℕ) → is_in n (k ∷ []) ≡ true → n ≡ k
 one_of n k e = elim (or_cases (k == n) false e) [
   | inl f ↦ sym (eqb-true k n f)

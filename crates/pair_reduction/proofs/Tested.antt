@@ -12,7 +12,7 @@ use Rattle.rank_tables.specs.Numbers.{numbers_to}
 use Rattle.rank_tables.specs.Instance.{Lists, pair_at, pair_count, pairs_of_hospital, pairs_of_resident, rank_by_resident}
 use Rattle.rank_tables.proofs.Numbers.{distinct-filter, distinct-numbers_to}
 use Rattle.stability_model.specs.Gone.{Pairs, has_only, is_sure, rule_a}
-use Rattle.stability_model.proofs.Counts.{any_at, count_in_list}
+use Rattle.stability_model.proofs.Counts.{count_alike}
 use Rattle.stability_model.proofs.GoneLocal.{count_same_in}
 
 pub number_in : (ps : List PairNo) (i : ℕ) (d : PairNo) → i < length ps → is_in (get_or ps i d).0 (numbers_of ps) ≡ true
@@ -31,12 +31,6 @@ pair_push (x ∷ ps) p = ap (λ (ns : List ℕ). x.0 ∷ ns) (pair_push ps p)
 
 pub next_number : (ps : List PairNo) (i : ℕ) (d : PairNo) → i < length ps → numbers_of (take (i + 1) ps) ≡ numbers_of (take i ps) ++ (get_or ps i d).0 ∷ []
 next_number ps i d h = ap numbers_of (take_more ps i d h) ∙ pair_push (take i ps) (get_or ps i d)
-
--- lists of the same numbers, without repeats, have one count
-pub count_alike : (t : ℕ → Bool) (ps qs : List ℕ) → is_distinct ps ≡ true → is_distinct qs ≡ true → ((p : ℕ) → is_in p ps ≡ is_in p qs) → count_by t ps ≡ count_by t qs
-count_alike t ps qs d e alike =
-    count_in_list t qs ps e d (all_from (λ x. is_in x qs) ps (λ x i. sym (alike x) ∙ i))
-    ∙ count_same_in (λ x. is_in x ps && t x) t qs (λ x i. ap (λ (b : Bool). b && t x) (alike x ∙ i))
 
 -- a count over a hospital's pairs as listed
 pub listed_count : (lists : Lists) (h k : ℕ) (t : ℕ → Bool) (ps : List PairNo) (i : ℕ) → h ≡ k → length ps ≤ i → is_distinct (numbers_of ps) ≡ true → ((p : ℕ) → is_in p (numbers_of ps) ≡ is_in p (pairs_of_hospital lists h)) →

@@ -5,6 +5,7 @@ use Rattle.pair_reduction.specs.declared.known.Known.{Known}
 use Rattle.pair_reduction.specs.Flags.{is_waiting}
 use Rattle.pair_reduction.specs.Known.{IsKept, mark_count, waiting_count, waiting_on}
 use Rattle.pair_reduction.specs.Reduced.{CanReduce, Reduces}
+use Rattle.pair_reduction.proofs.Offering.{goes_further}
 use Rattle.pair_reduction.proofs.Reducing.{are_gone, are_in_none, holds_units, reduces_first, reduces_more}
 use Rattle.pair_reduction.proofs.Settling.{closed_when_settled, nearer}
 use Rattle.pair_reduction.proofs.reduction.reduce.Goals as goal
@@ -42,3 +43,6 @@ visits-preserved c = record {
       (subst (λ (k : Known). Reduces c.args.model.now c.visits.deriv c.visit.new.deriv k.gone c.visit.new.known.gone) c.next.ensures.same c.in_ok-visit.ensures.reduces);
   kept = c.in_ok-visit.ensures.kept;
 }
+
+pub returns-in_err-visit-clause-goes_on : goal.returns-in_err-visit-clause-goes_on
+returns-in_err-visit-clause-goes_on c = goes_further c.args.deriv.now c.visits.deriv c.visit.new.deriv c.visits.invariant.reduces.goes_on c.in_err-visit.ensures.goes_on

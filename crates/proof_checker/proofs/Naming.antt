@@ -72,13 +72,6 @@ was_named : (ls : List Lit) (v : ℕ) (o : Option Bool) → is_some o ≡ true �
 was_named ls v None e h = absurd (cc e)
 was_named ls v (Some b) e h = h.0
 
--- no literal
-pub named-none : (vars : ℕ) → AreNamed vars [] (replicate vars None)
-named-none vars = record {
-  size = length-replicate vars None;
-  each = λ v c. subst (IsNamed [] v) (sym (get_or-replicate vars (v - 1) None None (omega (arith, c.first, c.last)))) refl;
-}
-
 -- one that names a variable for the first time
 pub named-more : (vars : ℕ) (ls : List Lit) (values : List (Option Bool)) (l : Lit) → AreNamed vars ls values → IsCovered vars l.var → is_some (get_or values (l.var - 1) None) ≡ false →
     AreNamed vars (ls ++ l ∷ []) (set values (l.var - 1) (Some (not l.neg)))

@@ -1,7 +1,7 @@
 -- The numbers of the live rows rise, and the next one is above them.
-use Rattle.std.proofs.Common.{◌≡◌, ℕ, ◌+◌, ◌<◌, ◌≤◌, ◌==◌, Bool, true, false, cond, not, ◌||◌, List, [], ◌∷◌, ◌++◌, if◌then◌else◌, length, refl, subst, arith}
+use Rattle.std.proofs.Common.{◌≡◌, ℕ, ◌+◌, ◌<◌, ◌≤◌, ◌==◌, Bool, true, false, cond, not, ◌||◌, List, [], ◌∷◌, ◌++◌, if◌then◌else◌, length, refl, inl, inr, subst, arith}
 use Rattle.std.specs.Prelude.{Option, Some, None, Ok}
-use Rattle.std.proofs.lemmas.Bool.{ne_eqb}
+use Rattle.std.proofs.lemmas.Bool.{cases_lt, ne_eqb}
 use Rattle.hrt_base.specs.declared.literal.Lit.{Lit}
 use Rattle.hrt_base.specs.declared.numbered.RowNo.{RowNo}
 use Rattle.pb_rows.specs.Terms.{PlainRow}
@@ -65,6 +65,19 @@ none-from k low high (e ∷ es) h n =
     order : (a b : ℕ) (xs : List NumberedRow) → AreNumbered a b xs → a ≤ b
     order a b [] m = m
     order a b (y ∷ ys) m = omega (arith, m.0, order (y.number + 1) b ys m.1)
+
+-- the number of a live row is 1 or more, and below the next
+pub live_within : (k next : ℕ) (row : PlainRow) (live : List NumberedRow) → AreNumbered 1 next live → row_of k live ≡ Some row → (1 ≤ k) × (k < next)
+live_within k next row live order e = (
+  elim (cases_lt k 1) [
+    | inl below ↦ let none : row_of k live ≡ None = none-below k 1 next live below order in absurd (cc)
+    | inr other ↦ other
+  ],
+  elim (cases_lt k next) [
+    | inl below ↦ below
+    | inr past ↦ let none : row_of k live ≡ None = none-from k 1 next live past order in absurd (cc)
+  ],
+)
 
 -- ---- states
 

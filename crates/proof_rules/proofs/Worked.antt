@@ -1,5 +1,5 @@
 -- A proof worked by hand: three pairs, seven rows, and a largest matching of two.
-use Rattle.std.specs.Prelude.{◌≡◌, ℕ, true, false, List, [], ◌∷◌, ℤ, pos, negsuc, ◌≤ℤ◌, Option, Some, Ok, Err, refl}
+use Rattle.std.specs.Prelude.{◌≡◌, ℕ, true, false, List, [], ◌∷◌, ◌++◌, ℤ, pos, negsuc, ◌≤ℤ◌, Option, Some, Ok, Err, refl}
 use Rattle.std.proofs.Common.{arith, inr}
 use Rattle.std.proofs.lemmas.Int.{ints}
 use Rattle.hrt_base.specs.declared.literal.Lit.{Lit}
@@ -8,13 +8,14 @@ use Rattle.pb_rows.specs.Terms.{PlainRow, weighing}
 use Rattle.pb_rows.specs.Formula.{Formula}
 use Rattle.rank_tables.specs.Instance.{Lists}
 use Rattle.stability_model.specs.Model.{formula}
+use Rattle.proof_lines.specs.declared.line.PolStep.{PolStep}
 use Rattle.proof_lines.specs.declared.line.PolStep.TheVariants.{Id, Add, Times, Weaken}
 use Rattle.proof_lines.specs.declared.line.Claim.{Claim}
 use Rattle.proof_lines.specs.declared.line.Claim.TheVariants.{Bounds}
 use Rattle.proof_lines.specs.declared.line.Line.{Line}
 use Rattle.proof_lines.specs.declared.line.Line.TheVariants.{Header, Count, Pol, Soli, Del, Output, Conclusion, End, Comment, Blank, Rup}
 use Rattle.proof_lines.specs.Spelling.{row_no}
-use Rattle.proof_rules.specs.Refusals.{Syntax, TooBig, BadId, BadVariable, StackShape, NotFull, NotASolution, WrongCount}
+use Rattle.proof_rules.specs.Refusals.{and_then, Syntax, TooBig, BadId, BadVariable, StackShape, NotFull, NotASolution, WrongCount}
 use Rattle.proof_rules.specs.Pol.{pol_row}
 use Rattle.proof_rules.specs.States.{State, first_state, with_row, after}
 use Rattle.proof_rules.specs.Claims.{HasStronger, at_least_row}
@@ -103,6 +104,10 @@ stronger = (bound_row, (7, omega arith, refl), refl, omega arith)
 same : (z : ℤ) → z ≤ℤ z
 same z = omega (arith, ints)
 
+-- a lower bound than the row's own
+weaker : HasStronger s2 (at_least_row worked (negsuc 2))
+weaker = (bound_row, (7, omega arith, refl), refl, omega arith)
+
 -- a line that owes nothing
 pub move : (here : Place) (line : Line) (there : Place) → next_place worked here line ≡ Ok there → Owed worked here line → Moves worked here line there
 move here line there e o = record { leads = e; owed = o }
@@ -178,6 +183,26 @@ big-factor = refl
 big-row : after worked s0 (Pol (Id (row_no 5) ∷ Times (pos 1329227995784915872903807060280344576) ∷ [])) ≡ Err TooBig
 big-row = refl
 
+-- a row whose coefficients sum to 2^120 fits, and with one more it doesn't
+abbrev most : List PolStep
+most = Id (row_no 2) ∷ Times (pos 1329227995784915872903807060280344576) ∷ []
+
+most-row : after worked s0 (Pol most) ≡ Ok (with_row s0 (row (w 1329227995784915872903807060280344576 (not_x 3) ∷ []) 0))
+most-row = refl
+
+one-more : after worked s0 (Pol (most ++ Id (row_no 2) ∷ Add ∷ [])) ≡ Err TooBig
+one-more = refl
+
+-- the same of its degree
+abbrev none_left : List PolStep
+none_left = Id (row_no 8) ∷ Id (row_no 9) ∷ Add ∷ []
+
+most-degree : pol_row 3 s2.live (none_left ++ Times (pos 1329227995784915872903807060280344576) ∷ []) ≡ Ok (row [] 1329227995784915872903807060280344576)
+most-degree = refl
+
+one-more-degree : pol_row 3 s2.live (none_left ++ Times (pos 1329227995784915872903807060280344576) ∷ none_left ++ Add ∷ []) ≡ Err TooBig
+one-more-degree = refl
+
 -- the numbers of a `rup` row, then its variables in written order, then the sum of its sizes
 rup-number : after worked s0 (Rup (record { terms = record { coef = pos 1329227995784915872903807060280344577; lit = x 9 } ∷ []; at_least = pos 0 })) ≡ Err TooBig
 rup-number = refl
@@ -208,6 +233,13 @@ fourth = refl
 deleted-twice : after worked s1 (Del (row_no 3 ∷ row_no 3 ∷ [])) ≡ Err (BadId 3)
 deleted-twice = refl
 
+-- a deleted row can't be named, and its number isn't given anew
+deleted-row : and_then (after worked s0 (Del (row_no 7 ∷ []))) (λ t. after worked t (Pol (Id (row_no 7) ∷ []))) ≡ Err (BadId 7)
+deleted-row = refl
+
+next-number : and_then (after worked s0 (Del (row_no 7 ∷ []))) (λ t. Ok t.next) ≡ Ok 8
+next-number = refl
+
 six-rows : next_place worked Headed (Count 6) ≡ Err WrongCount
 six-rows = refl
 
@@ -226,3 +258,19 @@ misplaced-claim = refl
 
 misplaced-step : next_place worked (Closing s2) (Pol (Times (pos 1329227995784915872903807060280344577) ∷ [])) ≡ Err Syntax
 misplaced-step = refl
+
+-- steps stand between the count and the output line, and each other line once
+early-step : next_place worked Headed bound ≡ Err Syntax
+early-step = refl
+
+second-count : next_place worked (Proving s0) (Count 7) ≡ Err Syntax
+second-count = refl
+
+second-output : next_place worked (Closing s2) Output ≡ Err Syntax
+second-output = refl
+
+second-claim : next_place worked (Claimed claim) (Conclusion claim) ≡ Err Syntax
+second-claim = refl
+
+early-end : next_place worked (Closing s2) End ≡ Err Syntax
+early-end = refl

@@ -1,19 +1,20 @@
--- Notes, worked by hand: which rows they hold, an honest load, a fresh learned row and its sizes.
-use Rattle.std.specs.Prelude.{◌≡◌, ◌<◌, ◌≤◌, ℕ, ◌+◌, Bool, true, false, if◌then◌else◌, IsTrue, List, [], ◌∷◌, ◌++◌, flat_map, codes, refl}
-use Rattle.std.proofs.Common.{arith, sym}
+-- Notes, worked by hand: which rows they hold, loads that are honest and that aren't, a fresh learned row and its sizes.
+use Rattle.std.specs.Prelude.{◌≡◌, ◌<◌, ◌≤◌, ℕ, ◌+◌, Bool, true, false, if◌then◌else◌, IsTrue, List, [], ◌∷◌, ◌++◌, map, length, flat_map, codes, refl}
+use Rattle.std.proofs.Common.{arith, subst, sym, ◌∙◌}
 use Rattle.std.proofs.lemmas.Bool.{true≢false}
 use Rattle.std.proofs.lemmas.List.Elements.{All-from_recursion}
 use Rattle.hrt_base.specs.declared.literal.Lit.{Lit}
+use Rattle.hrt_base.specs.declared.numbered.RowNo.{RowNo}
 use Rattle.pb_rows.specs.Terms.{PlainRow, opposite_lit}
-use Rattle.pb_rows.specs.Rows.{holds}
+use Rattle.pb_rows.specs.Rows.{holds, in_normal_form}
 use Rattle.pb_rows.specs.Closure.{IsClosure, IsQuiet, IsSettled, Keeps, Literals, among}
-use Rattle.stability_model.specs.Model.{point_of_pairs}
+use Rattle.stability_model.specs.Model.{pair_row, pair_row_no, point_of_pairs}
 use Rattle.proof_lines.specs.Spelling.{row_no}
-use Rattle.proof_lines.specs.declared.note.Note.TheVariants.{Load}
+use Rattle.proof_lines.specs.declared.note.Note.TheVariants.{Unit as UnitRow, Load, Drop}
 use Rattle.proof_rules.specs.Valid.{Proving}
 use Rattle.proof_rules.specs.Held.{first_held, held_rows}
-use Rattle.proof_rules.specs.Notes.{Fresh, HaveSizes, HonestLoad, IsBroken, is_greater}
-use Rattle.proof_rules.specs.Told.{NoteAt, held_by, notes_of}
+use Rattle.proof_rules.specs.Notes.{AreDecisions, Fresh, HaveSizes, HonestLoad, IsBroken, IsTrueNote, LearnedRow, is_greater}
+use Rattle.proof_rules.specs.Told.{NoteAt, held_by, learned_rows, notes_of}
 use Rattle.proof_rules.proofs.Learned.{among-all}
 use Rattle.proof_rules.proofs.Worked.{not_x, row, s0, tied, w, x}
 
@@ -32,6 +33,23 @@ text = lined (codes "pseudo-Boolean proof version 2.0" ∷ codes "f 7" ∷ codes
 held : held_by tied text ≡ record { kept = 1 ∷ 2 ∷ 3 ∷ 4 ∷ 5 ∷ 7 ∷ 9 ∷ []; learned = []; learn_notes = 1 }
 unfolding text
 held = refl
+
+-- the rows of unit and bound notes
+noted : List ℕ
+noted = lined (codes "pseudo-Boolean proof version 2.0" ∷ codes "f 7" ∷ codes "* note unit 5" ∷ codes "* note bound 7" ∷ [])
+
+noted-held : held_by tied noted ≡ record { kept = 1 ∷ 2 ∷ 3 ∷ 4 ∷ 5 ∷ 7 ∷ []; learned = []; learn_notes = 0 }
+unfolding noted
+noted-held = refl
+
+-- one row is learned, where six are held, and it isn't held just before its note
+asserted : map (λ (r : LearnedRow). r.asserts) (learned_rows (notes_of tied text)) ≡ x 3 ∷ []
+unfolding text
+asserted = refl
+
+held_then : map (λ (r : LearnedRow). length r.held) (learned_rows (notes_of tied text)) ≡ 6 ∷ []
+unfolding text
+held_then = refl
 
 -- the load note stands before all steps
 load_at : NoteAt
@@ -53,6 +71,42 @@ honest = record {
   held_hold = All-from_recursion (λ (r : PlainRow). IsTrue (holds (point_of_pairs (2 ∷ [])) r)) (held_rows s0.live (first_held tied)) (refl, (refl, (refl, (refl, tt))));
   broken = All-from_recursion (IsBroken tied (point_of_pairs (2 ∷ []))) (row_no 5 ∷ row_no 7 ∷ []) ((1, (omega arith, omega arith), refl, refl), ((3, (omega arith, omega arith), refl, refl), tt));
 }
+
+-- ---- loads that aren't honest
+
+-- of no row
+no-row : HonestLoad tied (held_rows s0.live (first_held tied)) (2 ∷ []) [] → ⊥
+no-row h = omega (arith, h.some)
+
+-- of row 6 too, which holds: it is that of the second pair
+pair-six : (p : ℕ) → 6 ≡ pair_row_no tied p → p ≡ 2
+pair-six p e = omega (arith, e)
+
+holding-row : HonestLoad tied (held_rows s0.live (first_held tied)) (2 ∷ []) (row_no 5 ∷ row_no 6 ∷ []) → ⊥
+holding-row h =
+    let six : IsBroken tied (point_of_pairs (2 ∷ [])) (row_no 6) = h.broken 1 (row_no 6) (omega arith) in
+    let unheld : holds (point_of_pairs (2 ∷ [])) (in_normal_form (pair_row tied 2)) ≡ false = subst (λ (p : ℕ). holds (point_of_pairs (2 ∷ [])) (in_normal_form (pair_row tied p)) ≡ false) (pair-six six.0 six.2) six.3 in
+    true≢false unheld
+
+-- of the row of a resident
+resident-row : HonestLoad tied (held_rows s0.live (first_held tied)) [] (row_no 1 ∷ []) → ⊥
+resident-row h =
+    let one : IsBroken tied (point_of_pairs []) (row_no 1) = h.broken 0 (row_no 1) (omega arith) in
+    omega (arith, one.2)
+
+-- at the first two pairs, both of one resident, whose row is held
+broken-row : (ids : List RowNo) → HonestLoad tied (held_rows s0.live (first_held tied)) (1 ∷ 2 ∷ []) ids → ⊥
+broken-row ids h =
+    let first : holds (point_of_pairs (1 ∷ 2 ∷ [])) (row (w 1 (not_x 1) ∷ w 1 (not_x 2) ∷ []) 1) ≡ true = h.held_hold 0 (row [] 0) (omega arith) in
+    true≢false (sym first)
+
+-- ---- notes of rows that aren't there
+
+not-live : IsTrueNote tied s0.live (first_held tied) (UnitRow (row_no 8)) → ⊥
+not-live h = true≢false (sym h)
+
+not-learned : IsTrueNote tied s0.live (first_held tied) (Drop (row_no 4)) → ⊥
+not-learned h = true≢false (sym h)
 
 -- ---- a fresh row: x1 + x2 >= 1 is held, ~x1 is decided, and ~x2 + x3 >= 1 makes x3 true
 
@@ -84,6 +138,23 @@ none-closure = record {
   least = λ other q l t. absurd (true≢false (sym t));
 }
 
+-- ~x1 and either give x2
+second_in : (other : Literals) → IsQuiet (either ∷ []) (among decided) other → other (x 2) ≡ true
+second_in other q =
+    let kept : Keeps other either = q.kept 0 either (omega arith) in
+    let unfalse : other (not_x 2) ≡ false = open_sum (other (not_x 1)) (other (not_x 2)) (q.has_given (not_x 1) refl) kept.unfalsified in
+    kept.settled 1 (w 1 (x 1)) (omega arith) unfalse (small (other (not_x 1)) (other (not_x 2)) (q.has_given (not_x 1) refl))
+  where
+    open_sum : (a b : Bool) → a ≡ true → 1 ≤ (if a then 0 else 1) + ((if b then 0 else 1) + 0) → b ≡ false
+    open_sum true true e h = absurd (omega (arith, h))
+    open_sum true false e h = refl
+    open_sum false b e h = absurd (true≢false (sym e))
+
+    small : (a b : Bool) → a ≡ true → (if a then 0 else 1) + ((if b then 0 else 1) + 0) < 1 + 1
+    small true true e = omega arith
+    small true false e = omega arith
+    small false b e = absurd (true≢false (sym e))
+
 closed-closure : IsClosure (either ∷ []) (among decided) closed
 closed-closure = record {
   quiet = record {
@@ -97,27 +168,8 @@ closed-closure = record {
       tt,
     );
   };
-  least = λ other q l t. among-all (λ k. other k ≡ true) (not_x 1 ∷ x 2 ∷ []) l (first_in other q, (second_in other q, tt)) t;
+  least = λ other q l t. among-all (λ k. other k ≡ true) (not_x 1 ∷ x 2 ∷ []) l (q.has_given (not_x 1) refl, (second_in other q, tt)) t;
 }
-  where
-    first_in : (other : Literals) → IsQuiet (either ∷ []) (among decided) other → other (not_x 1) ≡ true
-    first_in other q = q.has_given (not_x 1) refl
-
-    open_sum : (a b : Bool) → a ≡ true → 1 ≤ (if a then 0 else 1) + ((if b then 0 else 1) + 0) → b ≡ false
-    open_sum true true e h = absurd (omega (arith, h))
-    open_sum true false e h = refl
-    open_sum false b e h = absurd (true≢false (sym e))
-
-    small : (a b : Bool) → a ≡ true → (if a then 0 else 1) + ((if b then 0 else 1) + 0) < 1 + 1
-    small true true e = omega arith
-    small true false e = omega arith
-    small false b e = absurd (true≢false (sym e))
-
-    second_in : (other : Literals) → IsQuiet (either ∷ []) (among decided) other → other (x 2) ≡ true
-    second_in other q =
-        let kept : Keeps other either = q.kept 0 either (omega arith) in
-        let unfalse : other (not_x 2) ≡ false = open_sum (other (not_x 1)) (other (not_x 2)) (first_in other q) kept.unfalsified in
-        kept.settled 1 (w 1 (x 1)) (omega arith) unfalse (small (other (not_x 1)) (other (not_x 2)) (first_in other q))
 
 fresh : Fresh (either ∷ []) learned decided (x 3)
 fresh = record {
@@ -127,6 +179,21 @@ fresh = record {
   leaves_open = record { not_true = refl; not_false = refl };
   asserts = (w 1 (x 3), (1, omega arith, refl), refl, record { free = refl; exceeds = omega arith });
 }
+
+-- the row itself isn't fresh: what it would assert is in the closure already
+known-literal : Fresh (either ∷ []) either decided (x 2) → ⊥
+known-literal h = true≢false (sym (second_in h.set h.closure.quiet) ∙ h.leaves_open.not_true)
+
+-- and neither x2 nor its opposite is a decision after ~x1
+decided-true : AreDecisions (either ∷ []) [] (not_x 1 ∷ x 2 ∷ []) → ⊥
+decided-true h =
+    let later : AreDecisions (either ∷ []) decided (x 2 ∷ []) = h.1 in
+    true≢false (sym (second_in later.0.0 later.0.1.quiet) ∙ later.0.2.not_true)
+
+decided-false : AreDecisions (either ∷ []) [] (not_x 1 ∷ not_x 2 ∷ []) → ⊥
+decided-false h =
+    let later : AreDecisions (either ∷ []) decided (not_x 2 ∷ []) = h.1 in
+    true≢false (sym (second_in later.0.0 later.0.1.quiet) ∙ later.0.2.not_false)
 
 -- no literal is in the first closure, and two in the second, with the learned one three
 sizes : HaveSizes 3 (either ∷ []) [] decided (x 3) (0 ∷ 3 ∷ [])

@@ -1,11 +1,12 @@
 -- A store of which one slot changes.
-use Rattle.std.proofs.Common.{◌≡◌, ◌≢◌, ◌∙◌, ◌≤◌, ◌<◌, ◌+◌, ◌^◌, ◌==◌, ℕ, zero, suc, true, false, not, List, [], ◌∷◌, ◌++◌, filter, length, get_or, refl, sym, ap, subst, arith, inl, inr, Option, Some, None, eq-eqb, IsFalse, take, Global}
+use Rattle.std.proofs.Common.{◌≡◌, ◌≢◌, ◌∙◌, ◌≤◌, ◌<◌, ◌+◌, ◌^◌, ◌==◌, ℕ, zero, suc, true, false, if◌then◌else◌, is_some, List, [], ◌∷◌, ◌++◌, length, get_or, refl, sym, ap, subst, arith, inl, inr, Option, Some, None, eq-eqb, nat_eq, IsFalse, IfNone, Global}
 use Rattle.std.specs.List.{All}
+use Rattle.std.specs.HashMap.{HashMap, UpdatesBy, get}
 use Rattle.std.proofs.Math.ListN.{set}
-use Rattle.std.proofs.lemmas.Bool.{cases_Bool, cases_eq, cases_lt, eqb-true, ne_eqb, or_from, or_left, or_parts, or_right}
+use Rattle.std.proofs.lemmas.Bool.{cases_Bool, cases_eq, cases_lt, eqb-true, ne_eqb, or_left, or_parts, or_right}
 use Rattle.std.proofs.lemmas.List.Folds.{list_any-append}
 use Rattle.std.proofs.lemmas.List.{get_or-set_other, get_or-set_same, get_or_past, length-set, length_push}
-use Rattle.std.proofs.lemmas.List.Elements.{All-filter, All-from_get_or, All-push, All-weaker}
+use Rattle.std.proofs.lemmas.List.Elements.{All-from_get_or, All-weaker}
 use Rattle.hrt_base.specs.declared.literal.Lit.{Lit}
 use Rattle.pb_rows.specs.Terms.{coef_sum}
 use Rattle.pb_rows.specs.Closure.{among, none, nonfalse_sum}
@@ -13,13 +14,12 @@ use Rattle.pb_rows.specs.Formula.{NumberedRow, is_numbered, row_of, without}
 use Rattle.rup_engine.specs.declared.store.Occurrence.{Occurrence}
 use Rattle.rup_engine.specs.declared.store.Slot.{Slot}
 use Rattle.rup_engine.specs.declared.store.Store.{Store}
-use Rattle.rup_engine.specs.Adding.{IsListedAt, IsReady, IsRestored, NotesAtMost}
+use Rattle.rup_engine.specs.Adding.{IsListedAt, IsReady, IsThinner, NotesAtMost}
 use Rattle.rup_engine.specs.Live.{IsOver}
 use Rattle.std.specs.declared.vec.Vec.{Vec}
-use Rattle.hrt_base.specs.declared.literal.Term.{Term}
-use Rattle.rup_engine.proofs.Listing.{left-gone, left-other, left-within}
+use Rattle.rup_engine.proofs.Occurrences.{in_use-at, part-elsewhere}
 use Rattle.rup_engine.specs.Slots.{HasNumber, IsOverSlot, IsSteadySlot, Slots, entries_of, entry_of, slot_at, terms_of}
-use Rattle.rup_engine.specs.Store.{AreLeft, coef_for, is_one_of, list_at, place_of, weight_on}
+use Rattle.rup_engine.specs.Store.{AreAdded, AreNamed, IsSlotOf, coef_for, in_use, is_one_of, list_at, place_of, weight_on}
 use Rattle.rup_engine.proofs.Counting.{nonfalse_sum-none}
 use Rattle.rup_engine.proofs.Rounds.{row-at}
 
@@ -32,12 +32,14 @@ pub record ChangesSlot (vars : ℕ) (old new : Store) (before after : List ℕ) 
   pub others : (j : ℕ) → j ≢ k → slot_at new.slots.items j ≡ slot_at old.slots.items j
   pub here : slot_at new.slots.items k ≡ o
   pub over : IsOverSlot vars o
+  pub named : AreNamed new.slots.items new.numbers
   pub alone : (j n : ℕ) → j ≢ k → HasNumber n o → HasNumber n (slot_at old.slots.items j) → ⊥
   pub fits : coef_sum (terms_of o) ≤ 2 ^ 120
   pub lists_others : (l : Lit) (j : ℕ) → j ≢ k → coef_for j (list_at new.lists.items (place_of l)) ≡ coef_for j (list_at old.lists.items (place_of l))
-  pub lists_here : (l : Lit) → coef_for k (list_at new.lists.items (place_of l)) ≡ weight_on l (terms_of o)
+  pub lists_here : (l : Lit) → (if is_some o then coef_for k (list_at new.lists.items (place_of l)) else 0) ≡ weight_on l (terms_of o)
   pub lists_within : (p : ℕ) → All (λ x. x.slot < length new.slots.items) (list_at new.lists.items p)
   pub lists_count : length new.lists.items ≡ length old.lists.items
+  pub stale_count : length new.stale.items ≡ length old.stale.items
   pub tight_others : (j : ℕ) → j ≢ k → IsFalse (is_one_of j new.tight.items) → IsFalse (is_one_of j old.tight.items)
   pub tight_here : IsFalse (is_one_of k new.tight.items) → IsSteadySlot none (coef_sum (terms_of o)) o
   pub tight_within : All (λ j. j < length new.slots.items) new.tight.items
@@ -64,8 +66,12 @@ module _ (vars : ℕ) (old new : Store) (before after : List ℕ) (k : ℕ) (o :
     ]
   ]
 
-  coefs' : (l : Lit) (j : ℕ) → coef_for j (list_at new.lists.items (place_of l)) ≡ weight_on l (terms_of (slot_at new.slots.items j))
-  coefs' l j = by_slot (λ j o. coef_for j (list_at new.lists.items (place_of l)) ≡ weight_on l (terms_of o)) (c.lists_here l) (λ j ne. c.lists_others l j ne ∙ ready.kept.listed.coefs l j) j
+  coefs' : (l : Lit) (j : ℕ) → coef_for j (in_use new.slots.items (list_at new.lists.items (place_of l))) ≡ weight_on l (terms_of (slot_at new.slots.items j))
+  coefs' l j =
+      let kept : (j : ℕ) → j ≢ k → (if is_some (slot_at old.slots.items j) then coef_for j (list_at new.lists.items (place_of l)) else 0) ≡ weight_on l (terms_of (slot_at old.slots.items j)) =
+      λ j ne. ap (λ (n : ℕ). if is_some (slot_at old.slots.items j) then n else 0) (c.lists_others l j ne) ∙ sym (in_use-at old.slots.items j (list_at old.lists.items (place_of l))) ∙ ready.kept.listed.coefs l j in
+      in_use-at new.slots.items j (list_at new.lists.items (place_of l))
+      ∙ by_slot (λ j o. (if is_some o then coef_for j (list_at new.lists.items (place_of l)) else 0) ≡ weight_on l (terms_of o)) (c.lists_here l) kept j
 
   tight' : (j : ℕ) → IsFalse (is_one_of j new.tight.items) → IsSteadySlot none (coef_sum (terms_of (slot_at new.slots.items j))) (slot_at new.slots.items j)
   tight' j = by_slot (λ j o. IsFalse (is_one_of j new.tight.items) → IsSteadySlot none (coef_sum (terms_of o)) o) c.tight_here (λ j ne out. ready.kept.tight.others j (c.tight_others j ne out)) j
@@ -81,7 +87,9 @@ module _ (vars : ℕ) (old new : Store) (before after : List ℕ) (k : ℕ) (o :
         distinct = distinct';
         fits = by_slot (λ j o. coef_sum (terms_of o) ≤ 2 ^ 120) c.fits (λ j ne. ready.kept.slots.fits j);
       };
+      named = c.named;
       places = c.lists_count ∙ ready.kept.places;
+      stale = c.stale_count ∙ ready.kept.stale;
       listed = record { coefs = coefs'; within = c.lists_within };
       tight = record { others = tight'; within = c.tight_within };
     };
@@ -105,6 +113,80 @@ not_there n (None ∷ slots) h (suc j) k = not_there n slots h j k
 not_there n (Some s ∷ slots) h zero k = let p = or_parts (s.number.0 == n) (is_numbered n (entries_of slots)) h in let e : (s.number.0 == n) ≡ true = eq-eqb s.number.0 n k in let f = p.0 in absurd (let bad : true ≡ false = sym e ∙ f in cc)
 not_there n (Some s ∷ slots) h (suc j) k = not_there n slots (or_parts (s.number.0 == n) (is_numbered n (entries_of slots)) h).1 j k
 
+-- ---- numbers
+
+-- the number is kept with this slot, if any, and each other number as it was
+pub record Renames {S : Type 0} (old new : HashMap ℕ ℕ S) (n : ℕ) (o : Option ℕ) : Type 0 where
+  pub here : get nat_eq new n ≡ o
+  pub others : (m : ℕ) → m ≢ n → get nat_eq new m ≡ get nat_eq old m
+
+pub renames : {S : Type 0} (old new : HashMap ℕ ℕ S) (n : ℕ) (o : Option ℕ) → UpdatesBy nat_eq (nat_eq n) old new o → Renames old new n o
+renames old new n o u = record { here = u.1; others = λ m ne. u.2 m (ne_eqb n m (λ e. ne (sym e))) }
+
+pub renames-then : {S : Type 0} (old mid new : HashMap ℕ ℕ S) (n : ℕ) (o p : Option ℕ) → Renames old mid n o → Renames mid new n p → Renames old new n p
+renames-then old mid new n o p r s = record { here = s.here; others = λ m ne. s.others m ne ∙ r.others m ne }
+
+-- the slot that is kept with a number is none only where no row has it
+pub unnumbered : (slots : Slots) (n : ℕ) (o : Option ℕ) → IsSlotOf slots n o → IfNone o (is_numbered n (entries_of slots) ≡ false)
+unnumbered slots n None h = absent n slots h
+unnumbered slots n (Some k) h = tt
+
+slot_of-same : (old new : Slots) (n : ℕ) (o : Option ℕ) → ((j : ℕ) → slot_at new j ≡ slot_at old j) → IsSlotOf old n o → IsSlotOf new n o
+slot_of-same old new n None same h = λ j has. h j (subst (HasNumber n) (same j) has)
+slot_of-same old new n (Some k) same h = subst (HasNumber n) (sym (same k)) h
+
+-- the slot that changes has the number neither before nor after
+slot_of-other : (old new : Slots) (k n : ℕ) (o : Option ℕ) → ((j : ℕ) → j ≢ k → slot_at new j ≡ slot_at old j) → (HasNumber n (slot_at old k) → ⊥) → (HasNumber n (slot_at new k) → ⊥)
+    → IsSlotOf old n o → IsSlotOf new n o
+slot_of-other old new k n None others before after h = λ j has. elim (cases_eq j k) [
+  | inl e ↦ after (subst (λ (i : ℕ). HasNumber n (slot_at new i)) e has)
+  | inr ne ↦ h j (subst (HasNumber n) (others j ne) has)
+]
+slot_of-other old new k n (Some i) others before after h = elim (cases_eq i k) [
+  | inl e ↦ absurd (before (subst (λ (i : ℕ). HasNumber n (slot_at old i)) e h))
+  | inr ne ↦ subst (HasNumber n) (sym (others i ne)) h
+]
+
+module _ (old new : Store) (named : AreNamed old.slots.items old.numbers) where
+  pub named-same : ((j : ℕ) → slot_at new.slots.items j ≡ slot_at old.slots.items j) → ((n : ℕ) → get nat_eq new.numbers n ≡ get nat_eq old.numbers n) → AreNamed new.slots.items new.numbers
+  named-same same kept = record { each = λ n. rw (kept n) (slot_of-same old.slots.items new.slots.items n (get nat_eq old.numbers n) same (named.each n)) }
+
+  -- a number of no row goes
+  pub named-unused : (n : ℕ) → ((j : ℕ) → slot_at new.slots.items j ≡ slot_at old.slots.items j) → is_numbered n (entries_of old.slots.items) ≡ false
+      → Renames old.numbers new.numbers n None → AreNamed new.slots.items new.numbers
+  named-unused n same fresh r = record {
+    each = λ m. elim (cases_eq m n) [
+      | inl e ↦ rw (e, r.here) (λ j there. not_there n old.slots.items fresh j (subst (HasNumber n) (same j) there))
+      | inr ne ↦ rw (r.others m ne) (slot_of-same old.slots.items new.slots.items m (get nat_eq old.numbers m) same (named.each m))
+    ];
+  }
+
+  -- a row with a new number fills an empty slot
+  named-filled : (k : ℕ) (s : Slot) → ((j : ℕ) → j ≢ k → slot_at new.slots.items j ≡ slot_at old.slots.items j) → slot_at old.slots.items k ≡ None → slot_at new.slots.items k ≡ Some s
+      → Renames old.numbers new.numbers s.number.0 (Some k) → AreNamed new.slots.items new.numbers
+  named-filled k s others empty at r = record {
+    each = λ n. elim (cases_eq n s.number.0) [
+      | inl e ↦ rw (e, r.here) (subst (HasNumber s.number.0) (sym at) refl)
+      | inr ne ↦ rw (r.others n ne) (slot_of-other old.slots.items new.slots.items k n (get nat_eq old.numbers n) others
+          (λ has. subst (HasNumber n) empty has) (λ has. ne (sym (subst (HasNumber n) at has))) (named.each n))
+    ];
+  }
+
+  -- the only row with a number goes
+  named-removed : (k n : ℕ) → ((j : ℕ) → j ≢ k → slot_at new.slots.items j ≡ slot_at old.slots.items j) → slot_at new.slots.items k ≡ None → HasNumber n (slot_at old.slots.items k)
+      → ((j m : ℕ) → HasNumber m (slot_at old.slots.items j) → HasNumber m (slot_at old.slots.items k) → j ≡ k) → ((m : ℕ) → HasNumber m (slot_at old.slots.items k) → m ≡ n)
+      → Renames old.numbers new.numbers n None → AreNamed new.slots.items new.numbers
+  named-removed k n others empty has only one r = record {
+    each = λ m. elim (cases_eq m n) [
+      | inl e ↦ rw (e, r.here) (λ j there. elim (cases_eq j k) [
+        | inl same ↦ subst (HasNumber n) (ap (slot_at new.slots.items) same ∙ empty) there
+        | inr ne ↦ ne (only j n (subst (HasNumber n) (others j ne) there) has)
+      ])
+      | inr ne ↦ rw (r.others m ne) (slot_of-other old.slots.items new.slots.items k m (get nat_eq old.numbers m) others
+          (λ there. ne (one m there)) (λ there. subst (HasNumber m) empty there) (named.each m))
+    ];
+  }
+
 -- ---- an empty slot more
 
 pub slot_at-more : (slots : Slots) (j : ℕ) → slot_at (slots ++ None ∷ []) j ≡ slot_at slots j
@@ -124,30 +206,14 @@ sum-more [] (suc j) = refl
 sum-more (s ∷ sums) zero = refl
 sum-more (s ∷ sums) (suc j) = sum-more sums j
 
-pub notes-none : (k : ℕ) (tight : List ℕ) → NotesAtMost k tight tight
-notes-none k tight = record { others = λ j out. out; within = λ n h a. a }
-
-pub notes-one : (k : ℕ) (tight : List ℕ) → NotesAtMost k tight (tight ++ k ∷ [])
-notes-one k tight = record {
-  others = λ j out. (or_parts (is_one_of j tight) (is_one_of j (k ∷ [])) (sym (list_any-append (λ (i : ℕ). i == j) tight (k ∷ [])) ∙ out)).0;
-  within = λ n h a. All-push (λ (j : ℕ). j < n) tight k a h;
-}
-
 pub noted : (k : ℕ) (tight : List ℕ) → is_one_of k (tight ++ k ∷ []) ≡ true
 noted k tight = list_any-append (λ (i : ℕ). i == k) tight (k ∷ []) ∙ or_right (is_one_of k tight) (is_one_of k (k ∷ [])) (or_left (k == k) false (eq-eqb k k refl))
 
-one_of-without : (j k : ℕ) (tight : List ℕ) → (j ≡ k → ⊥) → is_one_of j (filter (λ i. not (i == k)) tight) ≡ false → is_one_of j tight ≡ false
-one_of-without j k [] ne h = refl
-one_of-without j k (i ∷ is) ne h = elim (cases_Bool (i == k)) [
-  | inl e ↦ or_from (i == j) (is_one_of j is) (ne_eqb i j (λ same. ne (sym same ∙ eqb-true i k e))) (one_of-without j k is ne (rw e at h))
-  | inr e ↦ let p = or_parts (i == j) (is_one_of j (filter (λ i. not (i == k)) is)) (rw e at h) in or_from (i == j) (is_one_of j is) p.0 (one_of-without j k is ne p.1)
-]
-
-weight_on-take : (l : Lit) (ts : List Term) (i : ℕ) → weight_on l (take i ts) ≤ weight_on l ts
-weight_on-take l [] zero = omega arith
-weight_on-take l [] (suc i) = omega arith
-weight_on-take l (t ∷ ts) zero = omega arith
-weight_on-take l (t ∷ ts) (suc i) = omega (arith, weight_on-take l ts i)
+coef_for-past : (k : ℕ) (os : List Occurrence) → All (λ (o : Occurrence). o.slot < k) os → coef_for k os ≡ 0
+coef_for-past k [] a = refl
+coef_for-past k (o ∷ os) a =
+    let first : o.slot < k = a 0 o (omega arith) in
+    omega (arith, part-elsewhere k o (λ e. omega arith), coef_for-past k os (λ i d h. a (suc i) d (omega (arith, h))))
 
 without-absent : (n : ℕ) (slots : Slots) → ((j : ℕ) → HasNumber n (slot_at slots j) → ⊥) → without n (entries_of slots) ≡ entries_of slots
 without-absent n [] h = refl
@@ -156,14 +222,14 @@ without-absent n (Some s ∷ slots) h =
     let other : (s.number.0 == n) ≡ false = ne_eqb s.number.0 n (λ e. h 0 e) in
     rw other (ap (λ es. entry_of s ∷ es) (without-absent n slots (λ j k. h (suc j) k)))
 
--- ---- the four changes
+-- ---- the changes
 
 module _ (vars : ℕ) (old new : Store) (before after : List ℕ) (ready : IsReady vars old before) where
   weaken_within : (n : ℕ) → length old.slots.items ≤ n → (os : List Occurrence) → All (λ (o : Occurrence). o.slot < length old.slots.items) os → All (λ (o : Occurrence). o.slot < n) os
   weaken_within n le os a = All-weaker (λ (o : Occurrence). o.slot < length old.slots.items) (λ (o : Occurrence). o.slot < n) (λ o h. omega arith) os a
 
-  pub opened : new.slots.items ≡ old.slots.items ++ None ∷ [] → new.lists.items ≡ old.lists.items → new.tight.items ≡ old.tight.items → after ≡ before ++ 0 ∷ [] → IsReady vars new after
-  opened slots lists tight sums =
+  pub opened : new.slots.items ≡ old.slots.items ++ None ∷ [] → new.lists.items ≡ old.lists.items → new.tight.items ≡ old.tight.items → new.numbers ≡ old.numbers → new.stale ≡ old.stale → after ≡ before ++ 0 ∷ [] → IsReady vars new after
+  opened slots lists tight numbers stale sums =
       let k : ℕ = length old.slots.items in
       let longer : length new.slots.items ≡ length old.slots.items + 1 = ap length slots ∙ length_push old.slots.items None in
       let same : (j : ℕ) → slot_at new.slots.items j ≡ slot_at old.slots.items j = λ j. ap (λ (x : Slots). slot_at x j) slots ∙ slot_at-more old.slots.items j in
@@ -174,12 +240,14 @@ module _ (vars : ℕ) (old new : Store) (before after : List ℕ) (ready : IsRea
         others = λ j ne. same j;
         here = same k ∙ empty;
         over = tt;
+        named = named-same old new ready.kept.named same (λ n. rw numbers refl);
         alone = λ j n ne h i. h;
         fits = omega arith;
         lists_others = λ l j ne. ap (λ (x : List (Vec Occurrence Global)). coef_for j (list_at x (place_of l))) lists;
-        lists_here = λ l. ap (λ (x : List (Vec Occurrence Global)). coef_for k (list_at x (place_of l))) lists ∙ ready.kept.listed.coefs l k ∙ ap (λ (o : Option Slot). weight_on l (terms_of o)) empty;
+        lists_here = λ l. refl;
         lists_within = λ p. rw lists (weaken_within (length new.slots.items) (omega (arith, longer)) (list_at old.lists.items p) (ready.kept.listed.within p));
         lists_count = ap length lists;
+        stale_count = rw stale refl;
         tight_others = λ j ne out. rw tight at out;
         tight_here = λ out. tt;
         tight_within = rw tight (All-weaker (λ (j : ℕ). j < length old.slots.items) (λ (j : ℕ). j < length new.slots.items) (λ j h. omega (arith, longer)) old.tight.items ready.kept.tight.within);
@@ -188,26 +256,29 @@ module _ (vars : ℕ) (old new : Store) (before after : List ℕ) (ready : IsRea
         room = omega (arith, longer, ap length sums, length_push before 0, ready.counted.room);
       })
 
-  pub filled : (k : ℕ) (s : Slot) → k < length old.slots.items → slot_at old.slots.items k ≡ None → is_numbered s.number.0 (entries_of old.slots.items) ≡ false → IsOver vars s.row
+  pub filled : (k : ℕ) (s : Slot) → k < length old.slots.items → slot_at old.slots.items k ≡ None → ((p : ℕ) → All (λ (o : Occurrence). o.slot < k) (list_at old.lists.items p)) → is_numbered s.number.0 (entries_of old.slots.items) ≡ false → IsOver vars s.row
       → coef_sum s.row.terms ≤ 2 ^ 120 → new.slots.items ≡ set old.slots.items k (Some s) → IsListedAt k s.row old.lists.items new.lists.items new.tight.items
-      → NotesAtMost k old.tight.items new.tight.items → after ≡ set before k (coef_sum s.row.terms) → IsReady vars new after
-  filled k s h empty fresh over fits slots listed notes sums =
+      → NotesAtMost k old.tight.items new.tight.items → Renames old.numbers new.numbers s.number.0 (Some k) → new.stale ≡ old.stale → after ≡ set before k (coef_sum s.row.terms) → IsReady vars new after
+  filled k s h empty bare fresh over fits slots listed notes renames stale sums =
       let count : length new.slots.items ≡ length old.slots.items = ap length slots ∙ length-set old.slots.items k (Some s) in
+      let others : (j : ℕ) → j ≢ k → slot_at new.slots.items j ≡ slot_at old.slots.items j = λ j ne. ap (λ (x : Slots). slot_at x j) slots ∙ get_or-set_other old.slots.items k j (Some s) None ne in
+      let here : slot_at new.slots.items k ≡ Some s = ap (λ (x : Slots). slot_at x k) slots ∙ get_or-set_same old.slots.items k (Some s) None h in
       changed vars old new before after k (Some s) ready (record {
         longer = omega (arith, count);
-        others = λ j ne. ap (λ (x : Slots). slot_at x j) slots ∙ get_or-set_other old.slots.items k j (Some s) None ne;
-        here = ap (λ (x : Slots). slot_at x k) slots ∙ get_or-set_same old.slots.items k (Some s) None h;
+        others = others;
+        here = here;
         over = over;
+        named = named-filled old new ready.kept.named k s others empty here renames;
         alone = λ j n ne a b. not_there s.number.0 old.slots.items fresh j (subst (λ (m : ℕ). HasNumber m (slot_at old.slots.items j)) (sym a) b);
         fits = fits;
         lists_others = λ l j ne. let q : (j == k) ≡ false = ne_eqb j k ne in let e = rw q at (listed.entered.coefs l j) in omega (arith, e);
         lists_here = λ l.
             let q : (k == k) ≡ true = eq-eqb k k refl in
             let e = rw q at (listed.entered.coefs l k) in
-            let none : coef_for k (list_at old.lists.items (place_of l)) ≡ 0 = ready.kept.listed.coefs l k ∙ ap (λ (o : Option Slot). weight_on l (terms_of o)) empty in
-            omega (arith, e, none);
+            omega (arith, e, coef_for-past k (list_at old.lists.items (place_of l)) (bare (place_of l)));
         lists_within = λ p. listed.entered.within (length new.slots.items) (omega (arith, count, h)) (λ q. weaken_within (length new.slots.items) (omega (arith, count)) (list_at old.lists.items q) (ready.kept.listed.within q)) p;
         lists_count = listed.entered.count;
+        stale_count = rw stale refl;
         tight_others = λ j ne out. notes.others j out;
         tight_here = listed.steady;
         tight_within = notes.within (length new.slots.items) (omega (arith, count, h))
@@ -217,28 +288,23 @@ module _ (vars : ℕ) (old new : Store) (before after : List ℕ) (ready : IsRea
         room = omega (arith, count, ap length sums, length-set before k (coef_sum s.row.terms), ready.counted.room);
       })
 
-  pub restored : (k : ℕ) (terms : List Term) → k < length old.slots.items → slot_at old.slots.items k ≡ None → new.slots.items ≡ old.slots.items → IsRestored k terms old.lists.items new.lists.items
-      → new.tight.items ≡ old.tight.items → after ≡ before → IsReady vars new after
-  restored k terms h empty slots r tight sums =
+  pub restored : (k : ℕ) → k < length old.slots.items → slot_at old.slots.items k ≡ None → new.slots.items ≡ old.slots.items → AreAdded k old.lists.items new.lists.items
+      → new.tight.items ≡ old.tight.items → (n : ℕ) → is_numbered n (entries_of old.slots.items) ≡ false → Renames old.numbers new.numbers n None → new.stale ≡ old.stale → after ≡ before → IsReady vars new after
+  restored k h empty slots added tight n fresh renames stale sums =
       let count : length new.slots.items ≡ length old.slots.items = ap length slots in
-      let none : (l : Lit) → coef_for k (list_at old.lists.items (place_of l)) ≡ 0 = λ l. ready.kept.listed.coefs l k ∙ ap (λ (o : Option Slot). weight_on l (terms_of o)) empty in
       changed vars old new before after k None ready (record {
         longer = omega (arith, count);
         others = λ j ne. ap (λ (x : Slots). slot_at x j) slots;
         here = ap (λ (x : Slots). slot_at x k) slots ∙ empty;
         over = tt;
+        named = named-unused old new ready.kept.named n (λ j. ap (λ (x : Slots). slot_at x j) slots) fresh renames;
         alone = λ j n ne h i. h;
         fits = omega arith;
-        lists_others = λ l j ne.
-            let q : (j == k) ≡ false = ne_eqb j k ne in
-            let e = rw q at (r.entered.coefs l j) in
-            left-other k terms r.mid new.lists.items r.left j (place_of l) ne ∙ omega (arith, e);
-        lists_here = λ l.
-            let q : (k == k) ≡ true = eq-eqb k k refl in
-            let e = rw q at (r.entered.coefs l k) in
-            left-gone k terms r.mid new.lists.items r.left l (omega (arith, e, none l, weight_on-take l terms r.some));
-        lists_within = λ p. rw count (left-within k terms r.mid new.lists.items r.left (length old.slots.items) (r.entered.within (length old.slots.items) h ready.kept.listed.within) p);
-        lists_count = r.left.count ∙ r.entered.count;
+        lists_others = added.others;
+        lists_here = λ l. refl;
+        lists_within = λ p. rw count (added.within (length old.slots.items) h ready.kept.listed.within p);
+        lists_count = added.count;
+        stale_count = rw stale refl;
         tight_others = λ j ne out. rw tight at out;
         tight_here = λ out. tt;
         tight_within = rw (tight, count) ready.kept.tight.within;
@@ -247,30 +313,47 @@ module _ (vars : ℕ) (old new : Store) (before after : List ℕ) (ready : IsRea
         room = omega (arith, count, ap length sums, ready.counted.room);
       })
 
-  pub removed : (k : ℕ) (s : Slot) → k < length old.slots.items → slot_at old.slots.items k ≡ Some s → new.slots.items ≡ set old.slots.items k None → AreLeft k s.row.terms old.lists.items new.lists.items
-      → new.tight.items ≡ filter (λ j. not (j == k)) old.tight.items → after ≡ set before k 0 → IsReady vars new after
-  removed k s h at slots left tight sums =
+  pub removed : (k : ℕ) (s : Slot) → k < length old.slots.items → slot_at old.slots.items k ≡ Some s → new.slots.items ≡ set old.slots.items k None → new.lists.items ≡ old.lists.items
+      → new.tight.items ≡ old.tight.items → Renames old.numbers new.numbers s.number.0 None → new.stale ≡ old.stale → after ≡ set before k 0 → IsReady vars new after
+  removed k s h at slots lists tight renames stale sums =
       let count : length new.slots.items ≡ length old.slots.items = ap length slots ∙ length-set old.slots.items k None in
+      let others : (j : ℕ) → j ≢ k → slot_at new.slots.items j ≡ slot_at old.slots.items j = λ j ne. ap (λ (x : Slots). slot_at x j) slots ∙ get_or-set_other old.slots.items k j None None ne in
+      let here : slot_at new.slots.items k ≡ None = ap (λ (x : Slots). slot_at x k) slots ∙ get_or-set_same old.slots.items k None None h in
+      let has : HasNumber s.number.0 (slot_at old.slots.items k) = subst (HasNumber s.number.0) (sym at) refl in
       changed vars old new before after k None ready (record {
         longer = omega (arith, count);
-        others = λ j ne. ap (λ (x : Slots). slot_at x j) slots ∙ get_or-set_other old.slots.items k j None None ne;
-        here = ap (λ (x : Slots). slot_at x k) slots ∙ get_or-set_same old.slots.items k None None h;
+        others = others;
+        here = here;
         over = tt;
+        named = named-removed old new ready.kept.named k s.number.0 others here has (λ j m a b. ready.kept.slots.distinct j k m a b) (λ m there. sym (subst (HasNumber m) at there)) renames;
         alone = λ j n ne h i. h;
         fits = omega arith;
-        lists_others = λ l j ne. left-other k s.row.terms old.lists.items new.lists.items left j (place_of l) ne;
-        lists_here = λ l.
-            let e : coef_for k (list_at old.lists.items (place_of l)) ≡ weight_on l s.row.terms = ready.kept.listed.coefs l k ∙ ap (λ (o : Option Slot). weight_on l (terms_of o)) at in
-            left-gone k s.row.terms old.lists.items new.lists.items left l (omega (arith, e));
-        lists_within = λ p. rw count (left-within k s.row.terms old.lists.items new.lists.items left (length old.slots.items) ready.kept.listed.within p);
-        lists_count = left.count;
-        tight_others = λ j ne out. one_of-without j k old.tight.items ne (rw tight at out);
+        lists_others = λ l j ne. ap (λ (x : List (Vec Occurrence Global)). coef_for j (list_at x (place_of l))) lists;
+        lists_here = λ l. refl;
+        lists_within = λ p. rw (lists, count) (ready.kept.listed.within p);
+        lists_count = ap length lists;
+        stale_count = rw stale refl;
+        tight_others = λ j ne out. rw tight at out;
         tight_here = λ out. tt;
-        tight_within = rw (tight, count) (All-filter (λ j. not (j == k)) (λ (j : ℕ). j < length old.slots.items) old.tight.items ready.kept.tight.within);
+        tight_within = rw (tight, count) ready.kept.tight.within;
         sums_others = λ j ne. ap (λ (x : List ℕ). get_or x j 0) sums ∙ get_or-set_other before k j 0 0 ne;
         sums_here = ap (λ (x : List ℕ). get_or x k 0) sums ∙ get_or-set_same before k 0 0 (omega (arith, h, ready.counted.room));
         room = omega (arith, count, ap length sums, length-set before k 0, ready.counted.room);
       })
+
+-- what is left of removed rows may go
+pub thinner-ready : (vars : ℕ) (old new : Store) (sums : List ℕ) → IsReady vars old sums → IsThinner old new → IsReady vars new sums
+thinner-ready vars old new sums ready t = record {
+  kept = record {
+    slots = rw t.slots ready.kept.slots;
+    named = rw (t.slots, t.numbers) ready.kept.named;
+    places = t.places ∙ ready.kept.places;
+    stale = t.stale ∙ ready.kept.stale;
+    listed = rw t.slots (t.listed ready.kept.listed);
+    tight = rw t.slots (t.tight ready.kept.tight);
+  };
+  counted = rw t.slots ready.counted;
+}
 
 -- ---- entries of changed slots
 

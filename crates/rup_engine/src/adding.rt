@@ -8,40 +8,27 @@ ghost use Rattle.pb_rows.specs.Formula.{is_numbered, row_of, without};
 ghost use Rattle.rup_engine.specs.Live.{IsOver};
 ghost use Rattle.rup_engine.specs.Propagation.{IsSteady};
 ghost use Rattle.rup_engine.specs.Slots.{HasNumber, entries_of, entry_of, slot_at};
-ghost use Rattle.rup_engine.specs.Adding.{IsListedAt, IsReady, IsRestored, NotesAtMost};
-ghost use Rattle.rup_engine.specs.Store.{is_one_of, place_of};
+ghost use Rattle.rup_engine.specs.Adding.{IsListedAt, IsReady, NotesAtMost};
+ghost use Rattle.rup_engine.specs.Store.{AreAdded, AreNamed, is_one_of, list_at, place_of};
 
-use crate::lists::{enter, leave};
+use crate::lists::enter;
 use crate::opposite::total;
 use crate::progress::Progress;
 use crate::propagation::weight_of;
 use crate::store::{Slot, Store};
+use crate::thinning::forget;
 use crate::visit::degree_of;
 use hrt_base::{NoMemory, RowNo, Term};
 use pb_rows::Row;
 
-/// Tells whether a slot's row has a number.
-fn has_number(slot: &Option<Slot>, id: RowNo) -> bool
-    ensures { IsTrue result ↔ HasNumber id.0 slot.now }
+/// The slot of a number. It takes the same time however many rows are live.
+pub fn find(store: &Store, id: RowNo) -> Option<usize>
+    requires { AreNamed store.now.slots.items store.now.numbers }
+    ensures place { IfSome result (λ k. k < length store.now.slots.items) }
+    ensures some { IfSome result (λ k. HasNumber id.0 (slot_at store.now.slots.items k)) }
+    ensures none { IfNone result (IsFalse (is_numbered id.0 (entries_of store.now.slots.items))) }
 {
-    match slot {
-        None => false,
-        Some(slot) => slot.number == id,
-    }
-}
-
-/// The slot of a number.
-pub fn find(slots: &[Option<Slot>], id: RowNo) -> Option<usize>
-    ensures place { IfSome result (λ k. k < length slots.now) }
-    ensures some { IfSome result (λ k. HasNumber id.0 (slot_at slots.now k)) }
-    ensures none { IfNone result (IsFalse (is_numbered id.0 (entries_of slots.now))) }
-{
-    for (k, slot) in slots.iter().enumerate() {
-        if has_number(slot, id) {
-            return Some(k);
-        }
-    }
-    None
+    store.numbers.get(&id.0).copied()
 }
 
 /// The row of a slot.
@@ -102,6 +89,7 @@ fn open_slot(store: &mut Store, progress: &mut Progress) -> Result<usize, NoMemo
     ensures entries { entries_of store.new.slots.items ≡ entries_of store.old.slots.items }
     ensures place { IfOk result (λ k. k + 1 ≡ length store.new.slots.items) }
     ensures empty { IfOk result (λ k. slot_at store.new.slots.items k ≡ None) }
+    ensures bare { IfOk result (λ k. (p : ℕ) → All (λ o. o.slot < k) (list_at store.new.lists.items p)) }
 {
     progress.sums.push(0)?;
     let place = store.slots.len();
@@ -109,30 +97,20 @@ fn open_slot(store: &mut Store, progress: &mut Progress) -> Result<usize, NoMemo
     Ok(place)
 }
 
-/// Lists the row of a slot, or leaves all lists as good as they were.
+/// Lists the row of a slot. Where memory is wanting, some of its occurrences may stay.
 fn list_row(store: &mut Store, place: usize, row: &Row) -> Result<(), NoMemory>
     requires places { All (λ t. place_of t.lit < length store.old.lists.items) row.now.terms }
     ensures slots { store.new.slots.items ≡ store.old.slots.items }
+    ensures numbers { store.new.numbers ≡ store.old.numbers }
     ensures ok { OnOk result (IsListedAt place row.now store.old.lists.items store.new.lists.items store.new.tight.items) }
     ensures grows { NotesAtMost place store.old.tight.items store.new.tight.items }
-    ensures err { OnErr result (IsRestored place row.now.terms store.old.lists.items store.new.lists.items) }
+    ensures err { OnErr result (AreAdded place store.old.lists.items store.new.lists.items) }
+    ensures stale { store.new.stale ≡ store.old.stale }
     ensures tight { OnErr result (store.new.tight.items ≡ store.old.tight.items) }
 {
-    let terms = row.terms();
-    match enter(&mut store.lists, place, terms) {
-        Ok(()) => {}
-        Err(_) => {
-            leave(&mut store.lists, place, terms);
-            return Err(NoMemory);
-        }
-    }
-    match note_tight(&mut store.tight, place, row) {
-        Ok(()) => Ok(()),
-        Err(_) => {
-            leave(&mut store.lists, place, terms);
-            Err(NoMemory)
-        }
-    }
+    enter(&mut store.lists, place, row.terms())?;
+    note_tight(&mut store.tight, place, row)?;
+    Ok(())
 }
 
 /// Puts a row into the last slot, which is empty.
@@ -145,6 +123,7 @@ fn fill_slot(
     requires ready { IsReady progress.old.trail.vars store.old progress.old.sums.items }
     requires place { place + 1 ≡ length store.old.slots.items }
     requires empty { slot_at store.old.slots.items place ≡ None }
+    requires bare { (p : ℕ) → All (λ o. o.slot < place) (list_at store.old.lists.items p) }
     requires fresh { IsFalse (is_numbered slot.number.0 (entries_of store.old.slots.items)) }
     requires over { IsOver progress.old.trail.vars slot.row }
     ensures ready { IsReady progress.old.trail.vars store.new progress.new.sums.items }
@@ -153,9 +132,14 @@ fn fill_slot(
     ensures ok { OnOk result (entries_of store.new.slots.items ≡ entries_of store.old.slots.items ++ entry_of slot ∷ []) }
     ensures err { OnErr result (entries_of store.new.slots.items ≡ entries_of store.old.slots.items) }
 {
+    let number = slot.number.0;
+    store.numbers.insert(number, place)?;
     match list_row(store, place, &slot.row) {
         Ok(()) => {}
-        Err(e) => return Err(e),
+        Err(e) => {
+            store.numbers.remove(&number);
+            return Err(e);
+        }
     }
     let terms = slot.row.terms();
     progress.sums[place] = total(terms);
@@ -181,20 +165,20 @@ pub fn add_row(store: &mut Store, progress: &mut Progress, slot: Slot) -> Result
     }
 }
 
-/// Removes the row of a slot, which has the number.
-pub fn remove_row(store: &mut Store, progress: &mut Progress, place: usize, _id: RowNo)
+/// Removes the row of a slot, which has the number. It takes time for each term, and on the whole for no other row.
+pub fn remove_row(store: &mut Store, progress: &mut Progress, place: usize, id: RowNo)
     requires ready { IsReady progress.old.trail.vars store.old progress.old.sums.items }
     requires place { place < length store.old.slots.items }
-    requires has { HasNumber _id.0 (slot_at store.old.slots.items place) }
+    requires has { HasNumber id.0 (slot_at store.old.slots.items place) }
     ensures ready { IsReady progress.old.trail.vars store.new progress.new.sums.items }
     ensures trail { progress.new.trail ≡ progress.old.trail }
     ensures done { progress.new.done ≡ progress.old.done }
-    ensures entries { entries_of store.new.slots.items ≡ without _id.0 (entries_of store.old.slots.items) }
+    ensures entries { entries_of store.new.slots.items ≡ without id.0 (entries_of store.old.slots.items) }
 {
     let Some(slot) = store.slots[place].take() else {
         return;
     };
-    leave(&mut store.lists, place, slot.row.terms());
-    store.tight.retain(|j| *j != place);
+    store.numbers.remove(&id.0);
     progress.sums[place] = 0;
+    forget(store, slot.row.terms());
 }

@@ -16,6 +16,7 @@ mod stronger;
 mod sums;
 #[cfg(test)]
 mod tests;
+mod thinning;
 mod trail;
 mod visit;
 mod visiting;

@@ -77,7 +77,7 @@ impl Live {
     pub fn get(&self, id: RowNo) -> Option<&Row>
         ensures { option_copied result ≡ row_of id.0 self.now.rows }
     {
-        match find(&self.store.slots, id) {
+        match find(&self.store, id) {
             None => None,
             Some(place) => row_at(&self.store.slots, place, id),
         }
@@ -96,7 +96,7 @@ impl Live {
         ensures rows { OnOk result (self.new ≡ record self.old { rows = without id.0 self.old.rows }) }
         ensures err { OnErr result (self.new ≡ self.old) }
     {
-        let Some(place) = find(&self.store.slots, id) else {
+        let Some(place) = find(&self.store, id) else {
             return Ok(false);
         };
         remove_row(&mut self.store, &mut self.progress, place, id);

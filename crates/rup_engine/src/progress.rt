@@ -69,7 +69,7 @@ fn take_next(
 {
     let lit = opposite(progress.trail.literals()[progress.done]);
     let occurrences = occurrences_of(store, lit);
-    lower(occurrences, &mut progress.sums);
+    lower(&store.slots, occurrences, &mut progress.sums);
     progress.done += 1;
     visit_occurrences(
         &store.slots,
@@ -139,7 +139,8 @@ pub fn undo(store: &Store, progress: &mut Progress)
     while progress.done > 0 {
         progress.done -= 1;
         let lit = opposite(progress.trail.literals()[progress.done]);
-        raise(occurrences_of(store, lit), &mut progress.sums);
+        let occurrences = occurrences_of(store, lit);
+        raise(&store.slots, occurrences, &mut progress.sums);
     }
     progress.trail.clear();
 }

@@ -1,10 +1,10 @@
 -- Counts along implications, counts over a list of pairs as counts over all pairs, and counts by kinds.
-use Rattle.std.proofs.Common.{◌≡◌, ℕ, ◌+◌, ◌≤◌, ◌<◌, Bool, true, false, not, ◌&&◌, List, [], ◌∷◌, ◌==◌, if◌then◌else◌, filter, sum_by, count_by, refl, sym, ◌∙◌, inl, inr, subst, arith}
+use Rattle.std.proofs.Common.{◌≡◌, ℕ, ◌+◌, ◌≤◌, ◌<◌, Bool, true, false, not, ◌&&◌, List, [], ◌∷◌, ◌==◌, if◌then◌else◌, filter, sum_by, count_by, refl, sym, ap, ◌∙◌, inl, inr, subst, arith}
 use Rattle.std.specs.List.{list_all, list_any}
 use Rattle.std.proofs.lemmas.Bool.{true≢false, or_cases, or_left, or_right, eqb-true, eq-eqb, ltb-true}
 use Rattle.std.proofs.lemmas.List.Sums.{sum_by-cons}
 use Rattle.rank_tables.specs.Numbers.{is_in, is_distinct}
-use Rattle.rank_tables.proofs.Numbers.{sum_by_same, sum_by-filter, sum_by_of_elements, list_any-count}
+use Rattle.rank_tables.proofs.Numbers.{all_from, sum_by_same, sum_by-filter, sum_by_of_elements, list_any-count}
 
 -- ---- along implications
 
@@ -71,6 +71,13 @@ count_in_filter t keep xs = sum_by-filter (λ x. if t x then 1 else 0) keep xs �
 pub count_in_list : (t : ℕ → Bool) (ns m : List ℕ) → is_distinct ns ≡ true → is_distinct m ≡ true → list_all (λ x. is_in x ns) m ≡ true →
     count_by t m ≡ count_by (λ x. is_in x m && t x) ns
 count_in_list t ns m d e h = sym (sum_by_of_elements (λ x. if t x then 1 else 0) ns m d e h) ∙ count_in_filter t (λ x. is_in x m) ns
+
+-- lists of the same numbers, without repeats, have one count
+pub count_alike : (t : ℕ → Bool) (ms ns : List ℕ) → is_distinct ms ≡ true → is_distinct ns ≡ true → ((x : ℕ) → is_in x ms ≡ is_in x ns) → count_by t ms ≡ count_by t ns
+count_alike t ms ns d e alike =
+    count_in_list t ns ms e d (all_from (λ x. is_in x ns) ms (λ x i. sym (alike x) ∙ i))
+    ∙ sum_by_same _ _ ns (λ x. ap (λ (b : Bool). if b && t x then 1 else 0) (alike x))
+    ∙ sym (count_in_list t ns ns e e (all_from (λ x. is_in x ns) ns (λ x i. i)))
 
 split_term : (h a b : Bool) → b ≡ not a → (if h then 1 else 0) ≡ (if h && a then 1 else 0) + (if h && b then 1 else 0)
 split_term true true true e = absurd (true≢false e)

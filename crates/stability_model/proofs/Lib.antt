@@ -8,7 +8,6 @@ pub mod Places
 pub mod TermCount
 mod PairTerms
 pub mod Counts
-pub mod PairNumbers
 pub mod GoneInNone
 pub mod GoneSteps
 pub mod GoneLocal

@@ -9,7 +9,6 @@ pub mod TermCount
 mod PairTerms
 mod RowSizes
 pub mod Counts
-pub mod PairNumbers
 pub mod GoneInNone
 pub mod GoneSteps
 pub mod GoneLocal

@@ -13,11 +13,9 @@ use Rattle.proof_rules.specs.Refusals.{Refusal, NotImplied, TooBig}
 use Rattle.proof_rules.specs.States.{after, if_known, literals_in, live_rows, rup_row, with_row}
 use Rattle.proof_rules.specs.Valid.{Proving}
 use Rattle.proof_rules.specs.Refused.{Refuses}
-use Rattle.proof_checker.specs.declared.fault.Fault.{Fault}
-use Rattle.proof_checker.specs.Faults.{Answers, Halts}
 use Rattle.proof_checker.specs.Kept.{Kept, Steps, with_new_row}
 use Rattle.proof_checker.specs.Tests.{known_terms}
-use Rattle.proof_checker.proofs.Halting.{halts-as, step-leads, step-stops, then-leads, then-stops}
+use Rattle.proof_checker.proofs.Halting.{step-leads, then-leads}
 use Rattle.proof_checker.proofs.Passing.{above, known-passes, known-stops}
 
 module _ (f : Formula) (old : Kept) where

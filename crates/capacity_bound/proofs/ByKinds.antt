@@ -1,12 +1,11 @@
 -- Counts over lists of pairs that are sorted into kinds.
-use Rattle.std.proofs.Common.{◌≡◌, ℕ, zero, suc, ◌+◌, ◌<◌, Bool, true, false, not, List, [], ◌∷◌, ◌==◌, if◌then◌else◌, length, filter, sum_by, count_by, pos, refl, sym, ap, ap₂, ◌∙◌, arith, length-append}
+use Rattle.std.proofs.Common.{◌≡◌, ℕ, zero, suc, ◌+◌, ◌<◌, Bool, true, false, not, List, [], ◌∷◌, ◌==◌, if◌then◌else◌, length, filter, sum_by, count_by, pos, refl, sym, ap₂, ◌∙◌, arith, length-append}
 use Rattle.std.specs.Prelude.{flat_map}
-use Rattle.std.specs.List.{list_all}
 use Rattle.std.proofs.lemmas.Bool.{or_left, or_right, eq-eqb, le-ltb, lt-ltb}
 use Rattle.std.proofs.lemmas.Int.{ints}
 use Rattle.std.proofs.lemmas.List.Sums.{sum_by-append, sum_by-cons}
 use Rattle.rank_tables.specs.Numbers.{is_in, is_distinct, below}
-use Rattle.rank_tables.proofs.Numbers.{all_from, sum_by_of_elements, sum_by_same, sum_by-filter, sum_by-filter_step, sum_z_same, sum_z_pos, sum_z_one, distinct_push, is_in-below}
+use Rattle.rank_tables.proofs.Numbers.{sum_by_same, sum_by-filter, sum_by-filter_step, sum_z_same, sum_z_pos, sum_z_one, distinct_push, is_in-below}
 
 distinct-below : (n : ℕ) → is_distinct (below n) ≡ true
 distinct-below zero = refl
@@ -53,17 +52,6 @@ pub length_by_kinds : (kind : ℕ → ℕ) (size : ℕ) (xs : List ℕ) → ((x 
     sum_by (λ k. count_by (λ x. kind x == k) xs) (below size) ≡ length xs
 length_by_kinds kind size xs h =
     sum_by_same _ _ (below size) (λ k. sym (sum_by-filter (λ x. 1) (λ x. kind x == k) xs)) ∙ sum_by_kinds kind (λ x. 1) size xs h ∙ sym (length_is_sum xs)
-
--- ---- lists with the same elements
-
-count_within : (t : ℕ → Bool) (ms ns : List ℕ) → is_distinct ms ≡ true → is_distinct ns ≡ true → list_all (λ x. is_in x ns) ms ≡ true → sum_by (λ x. if is_in x ms then (if t x then 1 else 0) else 0) ns ≡ count_by t ms
-count_within t ms ns d e h = sym (sum_by-filter (λ x. if t x then 1 else 0) (λ x. is_in x ms) ns) ∙ sum_by_of_elements (λ x. if t x then 1 else 0) ns ms e d h
-
-pub count_alike : (t : ℕ → Bool) (ms ns : List ℕ) → is_distinct ms ≡ true → is_distinct ns ≡ true → ((x : ℕ) → is_in x ms ≡ is_in x ns) → count_by t ms ≡ count_by t ns
-count_alike t ms ns d e same =
-    sym (count_within t ms ns d e (all_from (λ x. is_in x ns) ms (λ x i. sym (same x) ∙ i)))
-    ∙ sum_by_same _ _ ns (λ x. ap (λ (b : Bool). if b then (if t x then 1 else 0) else 0) (same x))
-    ∙ count_within t ns ns e e (all_from (λ x. is_in x ns) ns (λ x i. i))
 
 -- ---- lists one after another
 

@@ -10,8 +10,8 @@ use Rattle.rank_tables.specs.Tables.{numbers_of}
 use Rattle.rank_tables.proofs.Below.{length-below}
 use Rattle.rank_tables.proofs.Numbers.{list_any-count}
 use Rattle.stability_model.specs.Gone.{Pairs}
+use Rattle.stability_model.proofs.Counts.{count_alike}
 use Rattle.derivation.specs.Deletions.{Deletions, is_deleted}
-use Rattle.capacity_bound.proofs.ByKinds.{count_alike}
 use Rattle.capacity_bound.proofs.Parts.{numbers_distinct}
 
 sum_below : (f : ℕ → ℕ) (k : ℕ) → sum_by f (below (k + 1)) ≡ sum_by f (below k) + f k

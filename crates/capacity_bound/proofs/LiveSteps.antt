@@ -1,7 +1,7 @@
 -- The steps that name a live row and an axiom.
-use Rattle.std.proofs.Common.{◌≡◌, ℕ, ◌-◌, ◌<◌, ◌≤◌, ◌^◌, true, List, [], ◌∷◌, ◌++◌, nat_le, if◌then◌else◌, length, refl, ap, inl, inr, arith}
-use Rattle.std.specs.Prelude.{Option, Some, None, Ok, Err, codes, decimal}
-use Rattle.std.proofs.lemmas.Bool.{and_from, cases_lt, le-leb}
+use Rattle.std.proofs.Common.{◌≡◌, ℕ, ◌-◌, ◌<◌, ◌≤◌, ◌^◌, true, List, [], ◌∷◌, ◌++◌, nat_le, if◌then◌else◌, length, refl, ap, arith}
+use Rattle.std.specs.Prelude.{Option, Some, Ok, Err, codes, decimal}
+use Rattle.std.proofs.lemmas.Bool.{and_from, le-leb}
 use Rattle.std.proofs.lemmas.Fmt.{length-decimal-le}
 use Rattle.std.proofs.lemmas.List.{length-append}
 use Rattle.pb_rows.specs.Terms.{PlainRow}
@@ -14,22 +14,9 @@ use Rattle.proof_lines.specs.Texts.{step_words}
 use Rattle.proof_rules.specs.Refusals.{BadVariable}
 use Rattle.proof_rules.specs.Pol.{push_live}
 use Rattle.proof_rules.specs.States.{AreNumbered}
-use Rattle.proof_rules.proofs.Numbers.{none-below, none-from}
+use Rattle.proof_rules.proofs.Numbers.{live_within}
 use Rattle.capacity_bound.proofs.Covers.{Covers, covers_axiom}
 use Rattle.capacity_bound.proofs.Running.{Operand}
-
--- the number of a live row is 1 or more, and below the next
-pub live_within : (n next : ℕ) (row : PlainRow) (live : List NumberedRow) → AreNumbered 1 next live → row_of n live ≡ Some row → (1 ≤ n) × (n < next)
-live_within n next row live order e = (
-  elim (cases_lt n 1) [
-    | inl below ↦ let none : row_of n live ≡ None = none-below n 1 next live below order in absurd (cc)
-    | inr other ↦ other
-  ],
-  elim (cases_lt n next) [
-    | inl below ↦ below
-    | inr past ↦ let none : row_of n live ≡ None = none-from n 1 next live past order in absurd (cc)
-  ],
-)
 
 id_short : (n : ℕ) → n < 10 ^ 18 → length (spaced (decimal n ∷ [])) ≤ 19
 id_short n h = omega (arith, length-append (decimal n) [], length-decimal-le 18 n (omega arith) h (omega arith))

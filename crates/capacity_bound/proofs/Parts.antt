@@ -20,12 +20,13 @@ use Rattle.rank_tables.proofs.SamePairs.{listed-distinct, listed-same}
 use Rattle.stability_model.specs.Model.{IsRow, at_most, has_any, hospital_has_pair, hospital_row_no, resident_has_pair, resident_row_no, resident_rows, rows}
 use Rattle.stability_model.specs.Gone.{posts_left, residents_left}
 use Rattle.stability_model.proofs.Places.{names_hospital_row, names_resident_row}
+use Rattle.stability_model.proofs.Counts.{count_alike}
 use Rattle.proof_lines.specs.declared.line.PolStep.TheVariants.{Id}
 use Rattle.proof_lines.specs.Spelling.{row_no}
 use Rattle.proof_rules.specs.States.{AreNumbered}
 use Rattle.derivation.specs.Deletions.{AreUnitRows, Deletions, is_deleted, unit_of, unit_row}
 use Rattle.capacity_bound.specs.Steps.{hospital_operands, pair_operand, resident_operands, row_operand, unit_or_axiom}
-use Rattle.capacity_bound.proofs.ByKinds.{count_all, count_alike, count_lists, count_others, length_lists, sum_by_kinds}
+use Rattle.capacity_bound.proofs.ByKinds.{count_all, count_lists, count_others, length_lists, sum_by_kinds}
 use Rattle.capacity_bound.proofs.Covers.{covers_at_most, covers_unit}
 use Rattle.capacity_bound.proofs.LiveSteps.{axiom_operand, id_operand}
 use Rattle.capacity_bound.proofs.Running.{Amounts, Operand, amounts_one}

@@ -9,10 +9,10 @@ use Rattle.rank_tables.specs.Tables.{numbers_of}
 use Rattle.rank_tables.specs.Numbers.{is_distinct, is_in}
 use Rattle.rank_tables.proofs.Numbers.{list_any-count}
 use Rattle.stability_model.specs.Model.{hospital_row_no, resident_row_no}
+use Rattle.stability_model.proofs.Counts.{count_alike}
 use Rattle.proof_lines.specs.declared.line.PolStep.{PolStep}
 use Rattle.derivation.specs.Deletions.{Deletions, is_deleted}
 use Rattle.capacity_bound.specs.Steps.{hospital_operands, pair_operand, resident_operands, row_operand}
-use Rattle.capacity_bound.proofs.ByKinds.{count_alike}
 use Rattle.capacity_bound.proofs.Parts.{numbers_distinct}
 
 module _ (lists seen : Lists) (same : seen ≡ lists) (deletions : Deletions) (k count : ℕ) (pairs : List PairNo) (counts : count ≡ count_by (λ p. not (is_deleted deletions p)) (numbers_of pairs)) where

@@ -1,45 +1,19 @@
 // The bound row.
-ghost use Rattle.std.specs.Prelude.{◌≡◌, ◌<◌, ◌^◌, IfOk, IfSome, IsOk, OnErr, OnOk};
+ghost use Rattle.std.specs.Prelude.{◌≡◌, ◌<◌, ◌^◌, IfOk, IfSome, OnErr, OnOk};
 ghost use Rattle.pb_rows.specs.Formula.{row_of};
-ghost use Rattle.rank_tables.specs.Instance.{pair_count};
-ghost use Rattle.proof_rules.specs.Pol.{pol_row};
 ghost use Rattle.derivation.specs.Deletions.{AreUnitRows};
 ghost use Rattle.derivation.specs.Derived.{StaysValid};
 ghost use Rattle.derivation.specs.Ready.{IsReady};
-ghost use Rattle.derivation.specs.Steps.{IsWritable, Tries};
 ghost use Rattle.capacity_bound.specs.Bound.{DerivesBound, StopsEarly, bound_row};
 
 use crate::adding::steps_adding;
 use crate::operands::bound_operands;
-use derivation::{Deleted, Derivation, PolRefusal};
+use derivation::{Deleted, Derivation};
 use hrt_base::{NoMemory, RowNo};
-use proof_lines::{Line, Note, PolStep};
+use proof_lines::Note;
 use rank_tables::Instance;
 use stability_model::Model;
 use std::alloc::Global;
-
-/// Makes the row that the steps leave.
-fn make_row(
-    deriv: &mut Derivation,
-    alloc: Global,
-    model: &Model,
-    steps: &[PolStep],
-) -> Result<RowNo, NoMemory>
-    requires same { model.now ≡ deriv.old.lists }
-    requires open { deriv.old.claim ≡ None }
-    requires next { deriv.old.state.next < 10 ^ 18 }
-    requires writable { IsWritable (Line.Pol steps.now) }
-    requires made { IsOk (pol_row (pair_count deriv.old.lists) deriv.old.state.live steps.now) }
-    ensures id { IfOk result (λ id. id.0 ≡ deriv.old.state.next) }
-    ensures step { Tries result (Line.Pol steps.now) deriv.old deriv.new }
-    ensures valid { StaysValid deriv.old deriv.new }
-{
-    match deriv.pol(alloc, model, steps) {
-        Ok(id) => Ok(id),
-        Err(PolRefusal::TooBig) => unreachable!(),
-        Err(PolRefusal::NoMemory) => Err(NoMemory),
-    }
-}
 
 /// Makes the bound row, that the objective is at least minus the ceiling, by one line, and notes it. `None` says that there
 /// is no pair. After a refusal the line may stand without its note.
@@ -68,7 +42,7 @@ pub fn derive_bound(
     let _next = deriv.next();
     let operands = bound_operands(alloc, inst, model, gone)?;
     let steps = steps_adding(alloc, &operands)?;
-    let id = make_row(deriv, alloc, model, &steps)?;
+    let id = deriv.pol_that_fits(alloc, model, &steps)?;
     deriv.note(alloc, model, &Note::Bound(id))?;
     Ok(Some(id))
 }

@@ -7,7 +7,7 @@ mod NotesOfLines
 mod Standing
 mod Fronts
 mod Taken
-mod Solutions
+pub mod Solutions
 mod Asked
 mod Starts
 mod Counts

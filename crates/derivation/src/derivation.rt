@@ -171,6 +171,29 @@ impl<'a> Derivation<'a> {
         Ok(id)
     }
 
+    /// Makes the row that the steps leave, where none of them makes one that is too big.
+    pub fn pol_that_fits(
+        &mut self,
+        alloc: Global,
+        model: &Model,
+        steps: &[PolStep],
+    ) -> Result<RowNo, NoMemory>
+        requires same { model.now ≡ self.old.lists }
+        requires open { self.old.claim ≡ None }
+        requires next { self.old.state.next < 10 ^ 18 }
+        requires writable { IsWritable (Line.Pol steps.now) }
+        requires made { IsOk (pol_row (pair_count self.old.lists) self.old.state.live steps.now) }
+        ensures id { IfOk result (λ id. id.0 ≡ self.old.state.next) }
+        ensures step { Tries result (Line.Pol steps.now) self.old self.new }
+        ensures valid { StaysValid self.old self.new }
+    {
+        match self.pol(alloc, model, steps) {
+            Ok(id) => Ok(id),
+            Err(PolRefusal::TooBig) => unreachable!(),
+            Err(PolRefusal::NoMemory) => Err(NoMemory),
+        }
+    }
+
     /// Makes a row that the live rows imply by propagation. It searches for nothing.
     pub fn rup(&mut self, alloc: Global, model: &Model, row: Row) -> Result<RowNo, NoMemory>
         requires same { model.now ≡ self.old.lists }

@@ -127,6 +127,18 @@ fn appends_each_line(rt: HostRuntime) -> Result<(), Fail> {
     Ok(())
 }
 
+#[test]
+fn copies_a_live_row(rt: HostRuntime) -> Result<(), Fail> {
+    let alloc = rt.alloc();
+    let inst = tied(alloc)?;
+    let model = Model::of(alloc, &inst)?;
+    let deriv = bounded(alloc, &model)?;
+    let row = deriv.row(alloc, &model, RowNo(8))?;
+    assert_eq!(rt; row.degree(), 1);
+    assert_eq!(rt; row.terms().len(), 3);
+    Ok(())
+}
+
 // A host in memory with a proof that is being written, in pieces of so many bytes.
 fn host_of(alloc: Global, piece: usize) -> Result<MemoryHost, Fail>
     requires { 0 < piece }

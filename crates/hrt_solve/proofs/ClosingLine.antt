@@ -1,6 +1,6 @@
 -- The sum of the bound row and the row that asks for a larger matching can be written, and leaves the rest.
-use Rattle.std.proofs.Common.{length, ◌≡◌, ℕ, zero, suc, ◌+◌, ◌-◌, ◌<◌, ◌≤◌, ◌^◌, ◌&&◌, true, nat_le, List, [], ◌∷◌, ◌++◌, length-append, ℤ, pos, refl, sym, ap, ◌∙◌, subst, inl, inr, arith}
-use Rattle.std.specs.Prelude.{map, Option, Some, None, Result, Ok, IsOk, is_ok, ◌-ℤ◌, decimal, neg_ℤ}
+use Rattle.std.proofs.Common.{◌≡◌, ℕ, zero, suc, ◌+◌, ◌-◌, ◌<◌, ◌≤◌, ◌^◌, ◌&&◌, true, nat_le, List, [], ◌∷◌, ◌++◌, length-append, ℤ, pos, refl, sym, ap, ◌∙◌, subst, inl, inr, arith}
+use Rattle.std.specs.Prelude.{Option, Some, None, Result, Ok, IsOk, is_ok, ◌-ℤ◌, decimal, neg_ℤ}
 use Rattle.std.specs.Int.RustNames.{unsigned_abs}
 use Rattle.std.proofs.lemmas.Bool.{and_from, le-leb}
 use Rattle.std.proofs.lemmas.Fmt.{length-decimal-le}
@@ -14,7 +14,7 @@ use Rattle.pb_rows.proofs.Forms.{fits_sum}
 use Rattle.rank_tables.specs.Numbers.{numbers_to}
 use Rattle.rank_tables.specs.Instance.{Lists, pair_count}
 use Rattle.rank_tables.proofs.Below.{length-numbers_to}
-use Rattle.stability_model.specs.Model.{formula, objective, term}
+use Rattle.stability_model.specs.Model.{formula, objective}
 use Rattle.proof_lines.specs.declared.line.PolStep.{PolStep}
 use Rattle.proof_lines.specs.declared.line.PolStep.TheVariants.{Id, Add}
 use Rattle.proof_lines.specs.declared.line.Line.TheVariants.{Pol}
@@ -27,7 +27,8 @@ use Rattle.proof_rules.specs.Claims.{at_least_row}
 use Rattle.proof_rules.proofs.Fits.{fits-normal_form, fits_true, normal_form-degree, normal_form-rises, normal_form-sum, sizes-minus}
 use Rattle.derivation.specs.Derived.{Derived}
 use Rattle.derivation.specs.Steps.{IsWritable, Takes, with_new_row}
-use Rattle.capacity_bound.proofs.LiveSteps.{live_within}
+use Rattle.derivation.proofs.Solutions.{sizes_objective}
+use Rattle.proof_rules.proofs.Numbers.{live_within}
 use Rattle.hrt_solve.specs.Gauged.{HasBoundRow, IsGauged, value_of}
 use Rattle.hrt_solve.specs.Logged.{Closes, larger_row}
 use Rattle.hrt_solve.proofs.LoggedMatching.{bound_front, same_state}
@@ -49,10 +50,6 @@ sum_fits : (ts us : List Term) (a b : ℤ) → all_sizes ts a ≤ 2 ^ 100 → al
 sum_fits ts us a b h k =
     fits_sum (normal_form ts a) (normal_form us b) (normal_form-rises ts a (fits-normal_form ts a (omega arith))) (normal_form-rises us b (fits-normal_form us b (omega arith)))
     (omega (arith, normal_form-sum ts a, normal_form-sum us b), omega (arith, normal_form-degree ts a, normal_form-degree us b))
-
-sizes_objective : (ns : List ℕ) → sizes (map (λ p. term (neg_ℤ (pos 1)) p) ns) ≡ length ns
-sizes_objective [] = refl
-sizes_objective (n ∷ ns) = omega (arith, sizes_objective ns)
 
 closing_fits : (lists : Lists) (n size : ℕ) → pair_count lists ≤ 100000 → n < 2 ^ 32 → size < 2 ^ 32 → fits (add (at_least_row (formula lists) (value_of n)) (larger_row lists size)) ≡ true
 closing_fits lists n size few h k =

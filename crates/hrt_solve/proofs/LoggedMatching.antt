@@ -1,17 +1,13 @@
 -- What logging a matching leaves.
-use Rattle.std.proofs.Common.{◌≡◌, ℕ, ◌+◌, ◌==◌, ◌&&◌, ◌||◌, Bool, true, false, not, if◌then◌else◌, List, [], ◌∷◌, ◌++◌, length, map, ℤ, refl, sym, ap, ap₂, ◌∙◌, inl, inr}
+use Rattle.std.proofs.Common.{◌≡◌, ℕ, ◌+◌, if◌then◌else◌, List, [], ◌∷◌, ◌++◌, ℤ, sym, ap, ap₂, ◌∙◌}
 use Rattle.std.specs.Prelude.{Option, Some, None, Result, Ok, Err}
-use Rattle.std.specs.List.{list_any}
-use Rattle.std.proofs.lemmas.Bool.{cases_eq, eq-eqb, ne_eqb}
 use Rattle.hrt_base.specs.declared.literal.Lit.{Lit}
 use Rattle.hrt_base.specs.declared.numbered.RowNo.{RowNo}
 use Rattle.pb_rows.specs.Terms.{PlainRow}
 use Rattle.pb_rows.specs.Points.{Point, value_at}
 use Rattle.pb_rows.specs.Formula.{Formula, row_of}
-use Rattle.rank_tables.specs.Numbers.{is_in, numbers_to}
 use Rattle.rank_tables.specs.Instance.{Lists, pair_count}
 use Rattle.stability_model.specs.Model.{formula, objective}
-use Rattle.stability_model.proofs.ModelExact.{ObjectiveExact}
 use Rattle.proof_lines.specs.declared.line.Line.TheVariants.{Soli}
 use Rattle.proof_lines.specs.Texts.{line_text}
 use Rattle.proof_rules.specs.Refusals.{NotFull, Refusal}
@@ -19,36 +15,14 @@ use Rattle.proof_rules.specs.States.{IsInOrder, State, after, if_hold, is_full, 
 use Rattle.proof_rules.specs.Held.{keeping}
 use Rattle.proof_rules.proofs.Made.{made_hold, made_if, made_known}
 use Rattle.derivation.specs.Derived.{Derived}
-use Rattle.derivation.specs.Steps.{Takes, literal_at, literals_at}
+use Rattle.derivation.specs.Steps.{Takes, literals_at}
 use Rattle.derivation.proofs.Readiness.{row_front, row_last}
+use Rattle.derivation.proofs.Solutions.{value_same}
 use Rattle.hrt_solve.specs.Gauged.{HasBoundRow, IsGauged, value_of}
 use Rattle.hrt_solve.specs.Logged.{Logs, larger_row}
-use Rattle.hrt_solve.proofs.Points.{filter_alike}
 
 pub same_state : (s t : State) → ◌≡◌ {A = Result State Refusal} (Ok s) (Ok t) → s ≡ t
 same_state s t e = cc
-
--- the literals of a point name it
-named : (p : Point) (v : ℕ) (ns : List ℕ) → list_any (λ (l : Lit). l.var == v && not l.neg) (map (literal_at p) ns) ≡ (is_in v ns && p v)
-named p v [] = refl
-named p v (w ∷ ns) = elim (cases_eq w v) [
-  | inl e ↦ rw (eq-eqb w v e, named p v ns) (here (p w) (p v) (is_in v ns) (ap p e))
-  | inr e ↦ rw (ne_eqb w v e) (named p v ns)
-]
-  where
-    here : (a b i : Bool) → a ≡ b → (not (not a) || (i && b)) ≡ b
-    here true true i e = refl
-    here true false i e = absurd (cc)
-    here false true i e = absurd (cc)
-    here false false true e = refl
-    here false false false e = refl
-
-value_named : (lists : Lists) (p : Point) → value_at (named_point (literals_at (pair_count lists) p)) (objective lists) ≡ value_at p (objective lists)
-value_named lists p =
-    let n : ℕ = pair_count lists in
-    ObjectiveExact lists (named_point (literals_at n p))
-    ∙ ap (λ (ps : List ℕ). value_of (length ps)) (filter_alike (named_point (literals_at n p)) p (numbers_to n) (λ v i. named p v (numbers_to n) ∙ ap (λ (b : Bool). b && p v) i))
-    ∙ sym (ObjectiveExact lists p)
 
 -- the line of a solution leads to the state in which its value is logged
 after_logged : (f : Formula) (s t : State) (ls : List Lit) → after f s (Soli ls) ≡ Ok t → t ≡ logged f s (value_at (named_point ls) f.objective)
@@ -67,7 +41,7 @@ logs size n p id old new count value number taken = record {
 }
   where
     value_is : value_at (named_point (literals_at n p)) (objective old.lists) ≡ value_of size
-    value_is = ap (λ (k : ℕ). value_at (named_point (literals_at k p)) (objective old.lists)) count ∙ value_named old.lists p ∙ value
+    value_is = ap (λ (k : ℕ). value_at (named_point (literals_at k p)) (objective old.lists)) count ∙ value_same old.lists p ∙ value
 
     state_is : new.state ≡ logged (formula old.lists) old.state (value_of size)
     state_is = after_logged (formula old.lists) old.state new.state (literals_at n p) taken.step.leads ∙ ap (logged (formula old.lists) old.state) value_is

@@ -1,10 +1,10 @@
 -- The point of a matching: it satisfies the model, and its line can be written.
-use Rattle.std.proofs.Common.{◌≡◌, ℕ, zero, ◌-◌, ◌≤◌, ◌==◌, Bool, true, false, not, ◌||◌, cond, nat_le, List, [], ◌∷◌, ◌++◌, length, length-append, map, filter, refl, sym, ap, ap₂, ◌∙◌, subst, inl, inr, arith}
-use Rattle.std.specs.Prelude.{codes, replicate, slice_set, slice_index_or, ◌*◌}
+use Rattle.std.proofs.Common.{◌≡◌, ℕ, zero, ◌≤◌, ◌==◌, Bool, true, false, not, ◌||◌, cond, nat_le, List, [], ◌∷◌, ◌++◌, length, length-append, map, filter, refl, sym, ap, ap₂, ◌∙◌, subst, arith}
+use Rattle.std.specs.Prelude.{codes, ◌*◌}
 use Rattle.std.specs.List.{All, list_all}
-use Rattle.std.proofs.lemmas.Bool.{and_from, and_parts, cases_eq, eq-eqb, le-leb, leb-true, ne_eqb, or_left, or_right}
+use Rattle.std.proofs.lemmas.Bool.{and_from, and_parts, eq-eqb, le-leb, leb-true, or_left, or_right}
 use Rattle.std.proofs.lemmas.Fmt.{length-decimal-le}
-use Rattle.std.proofs.lemmas.List.{get_or-replicate, get_or-set_other, get_or-set_same, length-map}
+use Rattle.std.proofs.lemmas.List.{length-map}
 use Rattle.std.proofs.lemmas.List.Elements.{All-tail}
 use Rattle.hrt_base.specs.declared.numbered.PairNo.{PairNo}
 use Rattle.pb_rows.specs.Points.{Point, point_of, value_at}
@@ -38,21 +38,6 @@ or_apart false b c = refl
 in_more : (v : ℕ) (done : List PairNo) (p : PairNo) → is_in v (numbers_of (done ++ p ∷ [])) ≡ (is_in v (numbers_of done) || (p.0 == v))
 in_more v [] p = or_none (p.0 == v)
 in_more v (q ∷ done) p = ap (λ (b : Bool). (q.0 == v) || b) (in_more v done p) ∙ or_apart (q.0 == v) (is_in v (numbers_of done)) (p.0 == v)
-
-pub none_marked : (vars : ℕ) (bits : List Bool) → bits ≡ replicate vars false → IsPointOf vars [] bits
-none_marked vars bits e v first last = ap (λ (bs : List Bool). slice_index_or bs (v - 1) false) e ∙ get_or-replicate vars (v - 1) false false (omega arith)
-
-pub one_marked : (vars : ℕ) (done : List PairNo) (p : PairNo) (bits : List Bool) → length bits ≡ vars → 1 ≤ p.0 → p.0 ≤ vars → IsPointOf vars done bits → IsPointOf vars (done ++ p ∷ []) (slice_set bits (p.0 - 1) true)
-one_marked vars done p bits full low high is v first last = elim (cases_eq v p.0) [
-  | inl e ↦
-      ap (λ (i : ℕ). slice_index_or (slice_set bits (p.0 - 1) true) (i - 1) false) e
-      ∙ get_or-set_same bits (p.0 - 1) true false (omega arith)
-      ∙ sym (in_more v done p ∙ or_right (is_in v (numbers_of done)) (p.0 == v) (eq-eqb p.0 v (sym e)))
-  | inr e ↦
-      get_or-set_other bits (p.0 - 1) (v - 1) true false (λ same. e (omega arith))
-      ∙ is v first last
-      ∙ sym (in_more v done p ∙ ap (λ (b : Bool). is_in v (numbers_of done) || b) (ne_eqb p.0 v (λ same. e (sym same))) ∙ or_none (is_in v (numbers_of done)))
-]
 
 -- ---- it satisfies the model
 

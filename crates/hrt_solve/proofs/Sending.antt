@@ -1,12 +1,11 @@
 -- How a model and a proof follow each other on their ports.
-use Rattle.std.proofs.Common.{◌≡◌, ℕ, List, length, refl, sym, ap, ◌∙◌, subst, inl, inr, arith}
+use Rattle.std.proofs.Common.{◌≡◌, ℕ, List, length, sym, ap, ◌∙◌, subst, inr}
 use Rattle.std.proofs.lemmas.List.{length-map}
 use Rattle.hrt_base.specs.declared.numbered.PairNo.{PairNo}
 use Rattle.hrt_base.specs.declared.port.Port.{Port}
 use Rattle.hrt_base.specs.declared.port.Port.TheVariants.{Model as ModelPort, Proof as ProofPort}
-use Rattle.hrt_base.specs.declared.host.Begun.TheVariants.{Idle}
-use Rattle.hrt_base.specs.World.{World, put, sealed}
-use Rattle.hrt_base.specs.Calls.{NotWritten, Sealed, Sent}
+use Rattle.hrt_base.specs.World.{World}
+use Rattle.hrt_base.specs.Calls.{NotWritten, Sent}
 use Rattle.hrt_base.proofs.Pieces.{sent_failed}
 use Rattle.rank_tables.specs.Instance.{Lists}
 use Rattle.rank_tables.specs.Tables.{numbers_of}
@@ -21,14 +20,6 @@ use Rattle.hrt_solve.specs.Writing.{IsBoundText, IsBounded, IsProof, IsQuickText
 
 -- ---- one text
 
-pub sent_whole : (told : Type 0) (port : Port) (text : List ℕ) (w v u : World) → Sent told port text w v → Sealed told port v u → SentWhole told port text w u
-sent_whole told port text w v u sent sealing = record {
-  later = let a = sent.later in let b = sealing.later in omega arith;
-  read_faults = sealing.read_faults ∙ sent.read_faults;
-  begun = sealing.begun ∙ ap (put port Idle) sent.begun;
-  content = λ t. sealing.content t ∙ ap (sealed port) (sent.content t);
-}
-
 pub seal_failed : (told : Type 0) (port : Port) (text : List ℕ) (w v u : World) → Sent told port text w v → NotWritten told v u → SentFront told port text w u
 seal_failed told port text w v u sent failed = part_front told port text w u (sent_failed told port text w v u sent failed)
 
@@ -36,9 +27,6 @@ seal_failed told port text w v u sent failed = part_front told port text w u (se
 
 pub sent_both : (told : Type 0) (lists : Lists) (text : List ℕ) (w v u : World) → SentWhole told ModelPort (model_text lists) w v → SentWhole told ProofPort text v u → SentBoth told lists text w u
 sent_both told lists text w v u first second = record { between = v; model = first; proof = second }
-
-pub front_first : (told : Type 0) (lists : Lists) (text : List ℕ) (w u : World) → SentFront told ModelPort (model_text lists) w u → SentInPart told lists text w u
-front_first told lists text w u front = inl front
 
 pub front_behind : (told : Type 0) (lists : Lists) (text : List ℕ) (w v u : World) → SentWhole told ModelPort (model_text lists) w v → SentFront told ProofPort text v u → SentInPart told lists text w u
 front_behind told lists text w v u first second = inr (record { between = v; model = first; proof = second })
@@ -72,6 +60,3 @@ pub solves : (told : Type 0) (lists seen : Lists) (end : SolveEnd) (text : List 
     SentBoth told seen text w u → IsSolvedQuickly told lists end w u
 solves told lists seen end text w u same said proof sent =
     subst (λ (l : Lists). IsSolvedQuickly told l end w u) same (record { said = said; proof = record { text = text; is_proof = proof; sent = sent } })
-
-pub nothing_done : (told : Type 0) (Is : List ℕ → Type 0) (lists : Lists) (w : World) → StopsWriting told Is lists w w
-nothing_done told Is lists w = inl refl

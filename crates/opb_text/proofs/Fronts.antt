@@ -1,11 +1,11 @@
 -- Texts of which a front was sent.
-use Rattle.std.proofs.Common.{◌≡◌, ℕ, zero, suc, ◌+◌, ◌<◌, ◌≤◌, min, inl, inr, List, [], ◌++◌, length, take, sym, ap, subst, ◌∙◌, add-one, append_assoc, arith, Result, Ok, Err, OnErr}
+use Rattle.std.proofs.Common.{◌≡◌, ℕ, zero, suc, ◌+◌, ◌<◌, min, inl, inr, List, [], ◌++◌, length, take, sym, ap, subst, ◌∙◌, add-one, append_assoc, arith, Result, Ok, Err, OnErr}
 use Rattle.std.proofs.lemmas.Bool.{cases_eq}
 use Rattle.std.proofs.lemmas.List.{append-nil, take-append-le, take_min}
 use Rattle.std.proofs.Math.Seq.{take-append-add}
 use Rattle.hrt_base.specs.declared.port.Port.{Port}
 use Rattle.hrt_base.specs.World.{World}
-use Rattle.hrt_base.specs.Calls.{Rose, Sent, SentPart}
+use Rattle.hrt_base.specs.Calls.{Sent, SentPart}
 use Rattle.hrt_base.proofs.Pieces.{sent_more, sent_none}
 use Rattle.opb_text.specs.Sending.{SentFront, lines_to}
 
@@ -54,11 +54,6 @@ pub line_front : (told : Type 0) (port : Port) (line : ℕ → List ℕ) (k n : 
     → SentFront told port (lines_to line n) w u
 line_front told port line k n w v u h first second =
     front_of told port (lines_to line k ++ line k) (lines_to line n) w u (first_lines line k n h) (front_then told port (lines_to line k) (line k) w v u first second)
-
--- ---- a count of faults that rose later
-
-pub rose_later : (a b c : ℕ) → a ≤ b → Rose b c → Rose a c
-rose_later a b c h rose = omega arith
 
 -- ---- what is so after any refusal
 

@@ -67,9 +67,6 @@ pub record HasRead (all : List Line) (i : ℕ) (left : List Line) (draft : Draft
   pub within : i ≤ length all
   pub refusal : first_refusal [] all ≡ first_refusal (take i all) left
 
-pub none_read : (all : List Line) → HasRead all 0 all (drafted [])
-none_read all = record { draft_is = refl; rest = refl; within = omega arith; refusal = refl }
-
 pub is_due : (all : List Line) (i : ℕ) (line : Line) (after left : List Line) (d : Drafted) → HasRead all i left d → left ≡ line ∷ after → i < length all
 is_due all i line after left d read e = (next_of all i line after (read.rest ∙ e)).within
 

@@ -54,9 +54,6 @@ unspelled k whole is = rw is refl
 big_objective : (k : ℕ) (ts : List Term) → 2 ^ 119 < sizes ts → objective_refusal k false ts ≡ Some (TooBig k)
 big_objective k ts h = rw (lt-ltb (2 ^ 119) (sizes ts) h) refl
 
-pub too_big_refused : (k : ℕ) (ts : List Term) → 2 ^ 119 < sizes ts → IsRefusedBy (objective_refusal k false ts) (TooBig k)
-too_big_refused k ts h = big_objective k ts h
-
 pub no_term : (whole : Option (List Term)) (ts : List Term) (t u : List ℕ) (rest : List (List ℕ))
     → whole ≡ option_map (onto ts) (read_objective (t ∷ u ∷ rest)) → Unspelled ≡ reading is_small_term (read_term t u) → whole ≡ None
 no_term whole ts t u rest is kept =

@@ -1,21 +1,12 @@
 -- Tokens before a colon, read one by one, and a line feed at the end.
-use Rattle.std.proofs.Common.{◌≡◌, ℕ, zero, suc, false, eqb, List, [], ◌∷◌, ◌++◌, length, get_or, take, Option, Some, None, refl, sym, ap, append_assoc, arith}
+use Rattle.std.proofs.Common.{◌≡◌, ℕ, zero, suc, false, eqb, List, [], ◌∷◌, ◌++◌, length, get_or, take, Some, refl, ap, arith}
 use Rattle.std.specs.Prelude.{option_map}
 use Rattle.std.proofs.lemmas.List.{append-nil}
 use Rattle.std.proofs.lemmas.Bool.Decides.{nat_tests}
-use Rattle.row_text.specs.Numbers.{both}
-use Rattle.proof_lines.specs.Notes.{Front, with_item, without_feed}
+use Rattle.proof_lines.specs.Notes.{Front, without_feed}
 
 abbrev pub with_items : {A : Type 0} → List A → Front A → Front A
 with_items xs front = record { items = xs ++ front.items; behind = front.behind }
-
-pub no_items : {A : Type 0} (o : Option (Front A)) → o ≡ option_map (with_items []) o
-no_items None = refl
-no_items (Some front) = refl
-
-pub item_more : {A : Type 0} (xs : List A) (x : A) (o : Option (Front A)) → option_map (with_items xs) (both with_item (Some x) o) ≡ option_map (with_items (xs ++ x ∷ [])) o
-item_more {A} xs x None = refl
-item_more {A} xs x (Some front) = ap (λ (ys : List A). Some (record { items = ys; behind = front.behind })) (sym (append_assoc xs (x ∷ []) front.items))
 
 pub items_end : {A : Type 0} (xs : List A) (behind : List (List ℕ)) → option_map (with_items xs) (Some (record { items = []; behind = behind })) ≡ Some (record { items = xs; behind = behind })
 items_end {A} xs behind = ap (λ (ys : List A). Some (record { items = ys; behind = behind })) (append-nil xs)

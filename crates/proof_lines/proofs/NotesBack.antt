@@ -1,8 +1,8 @@
 -- Notes are read back from their words and from their text.
-use Rattle.std.proofs.Common.{◌≡◌, ℕ, ◌+◌, ◌≤◌, Bool, true, false, not, ◌&&◌, eqb, List, [], ◌∷◌, ◌++◌, length, map, Some, refl, ap, ap₂, ◌∙◌, arith}
+use Rattle.std.proofs.Common.{◌≡◌, ℕ, ◌+◌, ◌≤◌, Bool, true, false, ◌&&◌, List, [], ◌∷◌, ◌++◌, length, map, Some, refl, ap, ap₂, ◌∙◌, arith}
 use Rattle.std.specs.Prelude.{bytes_eq, codes, option_and_then, option_map}
 use Rattle.std.specs.List.{list_all}
-use Rattle.std.proofs.lemmas.Bool.{and_from, and_parts, le-leb, not-true}
+use Rattle.std.proofs.lemmas.Bool.{and_from, and_parts, le-leb}
 use Rattle.std.proofs.lemmas.List.{length-append}
 use Rattle.hrt_base.specs.declared.literal.Lit.{Lit}
 use Rattle.hrt_text.specs.Text.{without_return}
@@ -10,7 +10,7 @@ use Rattle.hrt_text.proofs.PlainLines.{without_return-plain}
 use Rattle.row_text.specs.Numbers.{both, read_literal, read_variable}
 use Rattle.row_text.specs.Rows.{literal_text}
 use Rattle.row_text.specs.Tokens.{tokens}
-use Rattle.row_text.proofs.Words.{all_words, is_plain, is_word, tokens-words_text, words_text_plain}
+use Rattle.row_text.proofs.Words.{all_words, is_word, tokens-words_text, words_text_plain}
 use Rattle.proof_lines.specs.declared.note.Note.{Note}
 use Rattle.proof_lines.specs.declared.note.Note.TheVariants.{Unit as unit_note, Bound as bound_note, Load as load_note, Learn as learn_note, Drop as drop_note}
 use Rattle.proof_lines.specs.Spelling.{most_bytes}
@@ -68,13 +68,6 @@ note_words_are (learn_note r decisions asserts) made =
     and_from (is_word (id_text r)) _ (made_id_word r k.0) (all_words (map literal_text decisions) (codes ":" ∷ literal_text asserts ∷ []) (literals_words decisions k.1) end)
 note_words_are (drop_note r) made = and_from (is_word (id_text r)) true (made_id_word r made) refl
 
-without_feed_plain : (text : List ℕ) → list_all is_plain text ≡ true → without_feed text ≡ text
-without_feed_plain [] h = refl
-without_feed_plain (b ∷ []) h =
-    let other : eqb b 10 ≡ false = not-true (eqb b 10) (and_parts (not (eqb b 10)) (not (eqb b 13)) (and_parts (is_plain b) true h).0).0 in
-    rw other refl
-without_feed_plain (b ∷ c ∷ text) h = ap (λ (l : List ℕ). b ∷ l) (without_feed_plain (c ∷ text) (and_parts (is_plain b) (list_all is_plain (c ∷ text)) h).1)
-
 without_feed_last : (text : List ℕ) → without_feed (text ++ 10 ∷ []) ≡ text
 without_feed_last [] = refl
 without_feed_last (b ∷ []) = refl
@@ -93,6 +86,3 @@ from_text note text made short is =
 -- What is written for a note reads as the note, with its line feed and without.
 pub note_back : (note : Note) → is_made_note note ≡ true → length (note_text note) ≤ most_bytes → note_of (note_text note) ≡ Some note
 note_back note made short = from_text note (note_text note) made short (without_feed_last (note_spelling note))
-
-pub note_back_bare : (note : Note) → is_made_note note ≡ true → length (note_text note) ≤ most_bytes → note_of (note_spelling note) ≡ Some note
-note_back_bare note made short = from_text note (note_spelling note) made short (without_feed_plain (note_spelling note) (words_text_plain (note_words note) (note_words_are note made)))

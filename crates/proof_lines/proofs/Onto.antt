@@ -4,7 +4,7 @@ use Rattle.std.specs.Prelude.{is_some, option_map}
 use Rattle.std.specs.List.{list_all}
 use Rattle.std.proofs.lemmas.List.{append-nil}
 use Rattle.std.proofs.lemmas.List.Folds.{list_all-append}
-use Rattle.row_text.specs.declared.readings.Reading.TheVariants.{Unspelled, TooBig, Value}
+use Rattle.row_text.specs.declared.readings.Reading.TheVariants.{Unspelled, TooBig}
 use Rattle.row_text.specs.Numbers.{both}
 use Rattle.row_text.specs.Readings.{reading}
 
@@ -45,6 +45,3 @@ pub big_list : {A : Type 0} (small : A → Bool) (front : List A) (x : A) (o : O
     → reading (list_all small) (option_map (behind front) (both before (Some x) o)) ≡ (if is_some o then TooBig else Unspelled)
 big_list small front x None big = refl
 big_list small front x (Some xs) big = rw (big_among small front x xs big) refl
-
-pub small_list : {A : Type 0} (small : A → Bool) (xs : List A) → list_all small xs ≡ true → Value xs ≡ reading (list_all small) (Some xs)
-small_list small xs all = rw all refl

@@ -15,12 +15,6 @@ all-append bytes more e =
     ap₂ (λ (lines : Reading) (rest : List ℕ). lines ++ last_line rest) (whole-append bytes more e) (ap (λ (c : Cut). c.rest) (cut-whole bytes more e))
     ∙ append_assoc (whole_lines bytes) (whole_lines more) (last_line (cut more).rest)
 
--- bytes without an unfinished line, and more that leads on
-pub whole-reaches : (f : Formula) (bytes more : List ℕ) (here there : Place) → (cut bytes).rest ≡ [] → Reaches f Start (whole_lines bytes) here → Reaches f here (whole_lines more) there →
-    Reaches f Start (whole_lines (bytes ++ more)) there
-whole-reaches f bytes more here there e r s =
-    subst (λ (lines : Reading). Reaches f Start lines there) (sym (whole-append bytes more e)) (reaches-append f Start (whole_lines bytes) (whole_lines more) here there r s)
-
 -- and more that ends the proof
 pub whole-valid : (f : Formula) (bytes more : List ℕ) (here : Place) (claim : Claim) → (cut bytes).rest ≡ [] → Reaches f Start (whole_lines bytes) here → Reaches f here (all_lines more) (Done claim) →
     IsValidText f (bytes ++ more) claim

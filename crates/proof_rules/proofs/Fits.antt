@@ -1,20 +1,17 @@
 -- Which rows fit: all but sums and multiples.
-use Rattle.std.proofs.Common.{◌≡◌, ℕ, zero, suc, ◌+◌, ◌*◌, ◌^◌, ◌≤◌, ◌↔◌, min, Bool, true, false, cond, not, List, [], ◌∷◌, nat_le, IsTrue, map, filter, ℤ, pos, negsuc, ◌+ℤ◌, ◌-ℤ◌, neg_ℤ, ◌≤ℤ◌, int_le, subst, refl, sym, ◌∙◌, inl, inr, arith}
-use Rattle.std.specs.Int.{div_ceil}
+use Rattle.std.proofs.Common.{◌≡◌, ℕ, zero, suc, ◌+◌, ◌*◌, ◌^◌, ◌≤◌, Bool, true, false, cond, List, [], ◌∷◌, nat_le, ℤ, pos, negsuc, ◌+ℤ◌, ◌-ℤ◌, neg_ℤ, ◌≤ℤ◌, int_le, subst, refl, sym, ◌∙◌, arith}
 use Rattle.std.specs.Int.RustNames.{unsigned_abs}
-use Rattle.std.proofs.Math.Nat.{mul-le-mul_left, mul-le-mul_right, div-zero, mod-zero}
+use Rattle.std.proofs.Math.Nat.{mul-le-mul_left}
 use Rattle.std.proofs.lemmas.Int.{ints}
-use Rattle.std.proofs.lemmas.Grind.{div_ceil_times}
-use Rattle.std.proofs.lemmas.Bool.{leb-true, le-leb, and_parts, and_from, cases_lt}
+use Rattle.std.proofs.lemmas.Bool.{leb-true, le-leb, and_parts, and_from}
 use Rattle.hrt_base.specs.declared.literal.Lit.{Lit}
 use Rattle.hrt_base.specs.declared.literal.Term.{Term}
-use Rattle.pb_rows.specs.Terms.{PlainRow, capped, coef_sum, is_over, is_present, weight}
+use Rattle.pb_rows.specs.Terms.{PlainRow, coef_sum, weight}
 use Rattle.pb_rows.specs.Points.{Point, true_sum, value_at}
 use Rattle.pb_rows.specs.Normal.{all_sizes, gained, normal_form, on_opposites, or_zero, sizes, var_bound}
-use Rattle.pb_rows.specs.Rows.{Fits, IsNormal, divide, literal_row, saturate, weaken}
+use Rattle.pb_rows.specs.Rows.{Fits, IsNormal, literal_row}
 use Rattle.pb_rows.specs.Joined.{joined_form, signless_all, turned_sum}
 use Rattle.pb_rows.proofs.ByNets.{holds-normal_form, joined_form_is, joined_rising}
-use Rattle.pb_rows.proofs.Changes.{reweighed_sum}
 use Rattle.pb_rows.proofs.Order.{put_all_sum}
 use Rattle.pb_rows.proofs.Signs.{or_zero_le, signless_from, signless_sum, turned_sum_le}
 use Rattle.pb_rows.proofs.Sums.{true_sum_le}
@@ -32,43 +29,14 @@ true_fits row h =
     let parts = and_parts (nat_le (coef_sum row.terms) (2 ^ 120)) (nat_le row.degree (2 ^ 120)) h in
     record { sum = leb-true (coef_sum row.terms) (2 ^ 120) parts.0; degree = leb-true row.degree (2 ^ 120) parts.1 }
 
-pub fits_is : (row : PlainRow) → IsTrue (fits row) ↔ Fits row
-fits_is row = (true_fits row, fits_true row)
-
 -- ---- division, saturation, weakening, literals
 
 kept_step : (b : Bool) (t : Term) (kept : List Term) (s : ℕ) → coef_sum kept ≤ s → coef_sum (cond b (t ∷ kept) kept) ≤ weight t.coef + s
 kept_step true t kept s h = omega (arith, h)
 kept_step false t kept s h = omega (arith, h)
 
-filter_sum : (keep : Term → Bool) (ts : List Term) → coef_sum (filter keep ts) ≤ coef_sum ts
-filter_sum keep [] = omega arith
-filter_sum keep (t ∷ ts) = kept_step (keep t) t (filter keep ts) (coef_sum ts) (filter_sum keep ts)
-
 grown : (c k : ℕ) → c ≤ c * suc k
 grown c k = let h : 1 ≤ suc k = omega arith in omega (arith, mul-le-mul_left c h)
-
-ceil_less : (k c : ℕ) → div_ceil c k ≤ c
-ceil_less zero c = omega (arith, div-zero c, mod-zero c)
-ceil_less (suc k) c = elim (cases_lt c (div_ceil c (suc k))) [
-  | inl lt ↦ absurd (omega (arith, div_ceil_times c (suc k) (omega arith), mul-le-mul_right (suc k) lt, grown c k))
-  | inr le ↦ le
-]
-
-pub fits-divide : (k : ℕ) (row : PlainRow) → Fits row → Fits (divide k row)
-fits-divide k row h = record {
-  sum = omega (arith, h.sum, reweighed_sum (λ w. div_ceil w k) (ceil_less k) row.terms);
-  degree = omega (arith, h.degree, ceil_less k row.degree);
-}
-
-pub fits-saturate : (row : PlainRow) → Fits row → Fits (saturate row)
-fits-saturate row h = record {
-  sum = omega (arith, h.sum, filter_sum is_present (map (capped row.degree) row.terms), reweighed_sum (λ w. min w row.degree) (λ w. omega arith) row.terms);
-  degree = h.degree;
-}
-
-pub fits-weaken : (v : ℕ) (row : PlainRow) → Fits row → Fits (weaken v row)
-fits-weaken v row h = record { sum = omega (arith, h.sum, filter_sum (λ t. not (is_over v t)) row.terms); degree = omega (arith, h.degree) }
 
 pub fits-literal_row : (l : Lit) → Fits (literal_row l)
 fits-literal_row l = record { sum = omega arith; degree = omega arith }

@@ -1,7 +1,7 @@
 -- Held rows stay live.
 use Rattle.std.proofs.Common.{◌≡◌, nat_le, map, ℕ, ◌+◌, ◌<◌, ◌≤◌, ◌==◌, Bool, true, false, cond, not, ◌||◌, List, [], ◌∷◌, ◌++◌, length, ◌⊎◌, refl, sym, ap, ◌∙◌, subst, inl, inr, arith}
 use Rattle.std.proofs.lemmas.List.{append-nil, length-append, length-map}
-use Rattle.std.proofs.lemmas.Bool.{and_parts, leb-true, cases_eq, cases_lt, eq-eqb, eqb-true, ne_eqb, true≢false}
+use Rattle.std.proofs.lemmas.Bool.{and_parts, leb-true, cases_eq, cases_lt, eq-eqb, eqb-true, ne_eqb}
 use Rattle.pb_rows.specs.Terms.{PlainRow}
 use Rattle.pb_rows.specs.Rows.{in_normal_form}
 use Rattle.pb_rows.specs.Formula.{NumberedRow, is_numbered, numbered_from, without}
@@ -62,9 +62,6 @@ numbered-from n k (row ∷ rows) h i = elim (cases_eq k n) [
 
 pub held_live-push : (held : Held) (live more : List NumberedRow) → HeldAreLive live held → HeldAreLive (live ++ more) held
 held_live-push held live more h n i = numbered-front n live more (h n i)
-
-pub held_live-without : (held : Held) (k : ℕ) (live : List NumberedRow) → is_held held k ≡ false → HeldAreLive live held → HeldAreLive (without k live) held
-held_live-without held k live e h n i = numbered-without n k (λ s. true≢false (sym i ∙ ap (is_held held) (sym s) ∙ e)) live ∙ h n i
 
 pub held_live-keeping : (held : Held) (numbers : List ℕ) (live : List NumberedRow) → ((n : ℕ) → is_in n numbers ≡ true → is_numbered n live ≡ true) → HeldAreLive live held → HeldAreLive live (keeping numbers held)
 held_live-keeping held numbers live k h n i = elim (one_of (is_held held n) (is_in n numbers) (sym (is_held-keeping held numbers n) ∙ i)) [ inl s ↦ h n s | inr s ↦ k n s ]

@@ -2,16 +2,11 @@
 use Rattle.std.proofs.Common.{◌≡◌, ℕ, ◌+◌, ◌<◌, ◌≤◌, ◌==◌, Bool, true, false, cond, not, ◌||◌, List, [], ◌∷◌, ◌++◌, if◌then◌else◌, length, refl, inl, inr, subst, arith}
 use Rattle.std.specs.Prelude.{Option, Some, None, Ok}
 use Rattle.std.proofs.lemmas.Bool.{cases_lt, ne_eqb}
-use Rattle.hrt_base.specs.declared.literal.Lit.{Lit}
 use Rattle.hrt_base.specs.declared.numbered.RowNo.{RowNo}
 use Rattle.pb_rows.specs.Terms.{PlainRow}
-use Rattle.pb_rows.specs.Points.{value_at}
-use Rattle.pb_rows.specs.Formula.{Formula, NumberedRow, is_numbered, numbered_from, row_of, without}
-use Rattle.proof_lines.specs.declared.line.Line.{Line}
-use Rattle.proof_lines.specs.declared.line.Line.TheVariants.{Pol, Rup, Soli, Del}
-use Rattle.proof_rules.specs.Pol.{pol_row}
-use Rattle.proof_rules.specs.States.{AreNumbered, IsInOrder, State, after, after_soli, deleted, first_state, is_full, logged, named_point, rup_row, with_row}
-use Rattle.proof_rules.proofs.Made.{made_hold, made_if, made_known, made_then}
+use Rattle.pb_rows.specs.Formula.{NumberedRow, is_numbered, numbered_from, row_of, without}
+use Rattle.proof_rules.specs.States.{AreNumbered, deleted}
+use Rattle.proof_rules.proofs.Made.{made_if}
 
 -- ---- lists
 
@@ -79,36 +74,3 @@ live_within k next row live order e = (
   ],
 )
 
--- ---- states
-
-pub first-in_order : (f : Formula) → IsInOrder (first_state f)
-first-in_order f = subst (λ (high : ℕ). AreNumbered 1 high (numbered_from 1 f.rows)) same (numbered-from 1 f.rows)
-  where
-    same : 1 + length f.rows ≡ length f.rows + 1
-    same = omega arith
-
-pub with_row-in_order : (s : State) (row : PlainRow) → IsInOrder s → IsInOrder (with_row s row)
-with_row-in_order s row n = numbered-push 1 s.next s.live row n
-
-soli-in_order : (f : Formula) (s t : State) (ls : List Lit) → IsInOrder s → after_soli f s ls ≡ Ok t → IsInOrder t
-soli-in_order f s t ls n e =
-    let full = made_if (is_full f.vars ls) _ _ t (made_known f.vars ls _ t e) in
-    let all = made_hold (named_point ls) 1 f.rows _ t full.1 in
-    let same : logged f s (value_at (named_point ls) f.objective) ≡ t = cc (all.1) in
-    subst IsInOrder same (numbered-push 1 s.next s.live _ n)
-
-pub after-in_order : (f : Formula) (s : State) (line : Line) (t : State) → IsInOrder s → after f s line ≡ Ok t → IsInOrder t
-after-in_order f s (Pol steps) t n e =
-    let made = made_then (pol_row f.vars s.live steps) (λ row. Ok (with_row s row)) t e in
-    let same : with_row s made.0 ≡ t = cc (made.2) in
-    subst IsInOrder same (with_row-in_order s made.0 n)
-after-in_order f s (Rup w) t n e =
-    let made = made_then (rup_row f.vars w) (λ row. Ok (with_row s row)) t e in
-    let same : with_row s made.0 ≡ t = cc (made.2) in
-    subst IsInOrder same (with_row-in_order s made.0 n)
-after-in_order f s (Soli ls) t n e = soli-in_order f s t ls n e
-after-in_order f s (Del ids) t n e =
-    let made = made_then (deleted ids s.live) (λ live. Ok (record s { live = live })) t e in
-    let same : record s { live = made.0 } ≡ t = cc (made.2) in
-    subst IsInOrder same (numbered-deleted ids 1 s.next s.live made.0 made.1 n)
-after-in_order f s line t n e = absurd (cc)

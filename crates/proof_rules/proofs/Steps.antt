@@ -18,7 +18,7 @@ use Rattle.proof_lines.specs.declared.line.Line.{Line}
 use Rattle.proof_lines.specs.declared.line.Line.TheVariants.{Pol, Rup, Soli, Del}
 use Rattle.proof_lines.specs.declared.line.PolStep.{PolStep}
 use Rattle.proof_rules.specs.Pol.{pol_row}
-use Rattle.proof_rules.specs.States.{State, live_rows, first_state, with_row, literals_in, rup_row, named_point, is_full, minus_terms, at_most_row, smaller, logged, after_soli, deleted, after, Follows, Step}
+use Rattle.proof_rules.specs.States.{State, live_rows, first_state, with_row, literals_in, rup_row, named_point, is_full, minus_terms, at_most_row, smaller, logged, after_soli, deleted, after, Follows}
 use Rattle.proof_rules.specs.Sound.{HasNormalRows, IsBelow, IsLogged, IsSoundState, IsUnsigned}
 use Rattle.proof_rules.proofs.Made.{made_if, made_then, made_known, made_hold}
 use Rattle.proof_rules.proofs.PolRows.{pol_row-keeps}
@@ -166,6 +166,3 @@ after-sound f s (Del ids) t i e o =
       unsigned = deleted-all IsUnsigned ids s.live made.0 made.1 i.unsigned;
     })
 after-sound f s line t i e o = absurd (cc)
-
-pub step-sound : (f : Formula) (s : State) (line : Line) (t : State) → IsSoundState f s → Step f s line t → IsSoundState f t
-step-sound f s line t i step = after-sound f s line t i step.leads step.follows

@@ -43,9 +43,6 @@ terms_ahead (t ∷ ts) ws l e =
     ap (λ (r : List ℕ). 32 ∷ (signed_text t.coef ++ 32 ∷ (literal_text t.lit ++ r))) (terms_ahead ts ws l e)
     ∙ sym (term_ahead t (flat_map term_text ts ++ l)) ∙ ap (λ (r : List ℕ). 32 ∷ r) (sym (append_assoc (term_text t) (flat_map term_text ts) l))
 
-row_tail : (row : Written) → spaced (codes ">=" ∷ signed_decimal row.at_least ∷ codes ";" ∷ []) ≡ 32 ∷ tail_text row
-row_tail row = refl
-
 pub row_text_spaced : (row : Written) → 32 ∷ row_text row ≡ spaced (row_words row)
 row_text_spaced row =
     let terms : List ℕ = flat_map term_text row.terms in

@@ -55,11 +55,3 @@ pub word_first : (line : List ℕ) (n : ℕ) → 0 < length line → is_apart (g
 word_first [] n lt h e = absurd (omega arith)
 word_first (x ∷ xs) zero lt h e = let f = ap (λ (o : Onward). o.run) (sym (run_more x xs h) ∙ e) in absurd cc
 word_first (x ∷ xs) (suc n) lt h e = (ap all_of e, omega arith)
-
--- a blank is passed over
-pub blank_passed : (line : List ℕ) (i : ℕ) → i < length line → is_blank (get_or line i 0) ≡ true → tokens (drop i line) ≡ tokens (drop (i + 1) line)
-blank_passed line i lt h = ap tokens (drop_more line i 0 lt) ∙ (rw h refl)
-
--- a `;` stands for itself
-pub semicolon_at : (line : List ℕ) (i : ℕ) → i < length line → get_or line i 0 ≡ 59 → tokens (drop i line) ≡ (59 ∷ []) ∷ tokens (drop (i + 1) line)
-semicolon_at line i lt is = ap tokens (drop_more line i 0 lt ∙ ap (λ (b : ℕ). b ∷ drop (i + 1) line) is)

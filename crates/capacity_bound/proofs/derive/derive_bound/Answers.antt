@@ -10,13 +10,13 @@ steps_adding-requires c =
     operands_some c.args.inst.now c.args.gone.now c.args.deriv.now c.requires.derivation c.requires.ready c.next-next.ensures.in_order c.requires.next c.requires.units (omega (arith, c.pairs.ensures.count, c.pairs.ensures.few)) c.in_ok-operands.ensures.well_formed
     (omega (arith, c.pairs.ensures.count, c.if-pairs-eq0.false)) c.deref.result.now (c.deref.ensures.value ∙ c.in_ok-operands.ensures.are)
 
-pub make_row-requires-clause-writable : goal.make_row-requires-clause-writable
-make_row-requires-clause-writable c =
+pub pol_that_fits-requires-clause-writable : goal.pol_that_fits-requires-clause-writable
+pol_that_fits-requires-clause-writable c =
     line_writable c.args.inst.now c.args.gone.now c.args.deriv.now c.requires.derivation c.requires.ready c.next-next.ensures.in_order c.requires.next c.requires.units (omega (arith, c.pairs.ensures.count, c.pairs.ensures.few)) c.in_ok-operands.ensures.well_formed
     (omega (arith, c.pairs.ensures.count, c.if-pairs-eq0.false)) c.deref.result.now c.deref-2.result.now (c.deref.ensures.value ∙ c.in_ok-operands.ensures.are) (subst (λ (s : List PolStep). AddsRows c.deref.result.now s) (sym c.deref-2.ensures.value) c.in_ok-steps.ensures)
 
-pub make_row-requires-clause-made : goal.make_row-requires-clause-made
-make_row-requires-clause-made c =
+pub pol_that_fits-requires-clause-made : goal.pol_that_fits-requires-clause-made
+pol_that_fits-requires-clause-made c =
     line_makes c.args.inst.now c.args.gone.now c.args.deriv.now c.requires.derivation c.requires.ready c.next-next.ensures.in_order c.requires.next c.requires.units (omega (arith, c.pairs.ensures.count, c.pairs.ensures.few)) c.in_ok-operands.ensures.well_formed
     (omega (arith, c.pairs.ensures.count, c.if-pairs-eq0.false)) c.deref.result.now c.deref-2.result.now (c.deref.ensures.value ∙ c.in_ok-operands.ensures.are) (subst (λ (s : List PolStep). AddsRows c.deref.result.now s) (sym c.deref-2.ensures.value) c.in_ok-steps.ensures)
 
@@ -30,19 +30,19 @@ pub returns-in_err-note-clause-early : goal.returns-in_err-note-clause-early
 returns-in_err-note-clause-early c =
     on_err c.from_residual-in_err-note.result
     (stops_early c.args.inst.now c.args.gone.now c.args.deriv.now c.requires.derivation c.requires.ready c.next-next.ensures.in_order c.requires.next c.requires.units (omega (arith, c.pairs.ensures.count, c.pairs.ensures.few)) c.in_ok-operands.ensures.well_formed
-    (omega (arith, c.pairs.ensures.count, c.if-pairs-eq0.false)) c.deref.result.now c.deref-2.result.now (c.deref.ensures.value ∙ c.in_ok-operands.ensures.are) (subst (λ (s : List PolStep). AddsRows c.deref.result.now s) (sym c.deref-2.ensures.value) c.in_ok-steps.ensures) c.make_row.new.deriv c.in_ok-id.ensures.step c.note.new.self c.in_err-note.ensures.note)
+    (omega (arith, c.pairs.ensures.count, c.if-pairs-eq0.false)) c.deref.result.now c.deref-2.result.now (c.deref.ensures.value ∙ c.in_ok-operands.ensures.are) (subst (λ (s : List PolStep). AddsRows c.deref.result.now s) (sym c.deref-2.ensures.value) c.in_ok-steps.ensures) c.pol_that_fits.new.self c.in_ok-id.ensures.step c.note.new.self c.in_err-note.ensures.note)
 
 pub returns-clause-bound : goal.returns-clause-bound
 returns-clause-bound c =
     has_bound c.args.inst.now c.args.gone.now c.args.deriv.now c.requires.derivation c.requires.ready c.next-next.ensures.in_order c.requires.next c.requires.units (omega (arith, c.pairs.ensures.count, c.pairs.ensures.few)) c.in_ok-operands.ensures.well_formed
-    (omega (arith, c.pairs.ensures.count, c.if-pairs-eq0.false)) c.deref.result.now c.deref-2.result.now (c.deref.ensures.value ∙ c.in_ok-operands.ensures.are) (subst (λ (s : List PolStep). AddsRows c.deref.result.now s) (sym c.deref-2.ensures.value) c.in_ok-steps.ensures) c.make_row.new.deriv c.in_ok-id.ensures.step c.in_ok-id.id c.note.new.self c.in_ok-id.ensures.id c.in_ok-note.ensures.note
+    (omega (arith, c.pairs.ensures.count, c.if-pairs-eq0.false)) c.deref.result.now c.deref-2.result.now (c.deref.ensures.value ∙ c.in_ok-operands.ensures.are) (subst (λ (s : List PolStep). AddsRows c.deref.result.now s) (sym c.deref-2.ensures.value) c.in_ok-steps.ensures) c.pol_that_fits.new.self c.in_ok-id.ensures.step c.in_ok-id.id c.note.new.self c.in_ok-id.ensures.id c.in_ok-note.ensures.note
 
 pub returns-clause-row : goal.returns-clause-row
 returns-clause-row c =
     row_there c.args.inst.now c.args.gone.now c.args.deriv.now c.requires.derivation c.requires.ready c.next-next.ensures.in_order c.requires.next c.requires.units (omega (arith, c.pairs.ensures.count, c.pairs.ensures.few)) c.in_ok-operands.ensures.well_formed
-    (omega (arith, c.pairs.ensures.count, c.if-pairs-eq0.false)) c.deref.result.now c.deref-2.result.now (c.deref.ensures.value ∙ c.in_ok-operands.ensures.are) (subst (λ (s : List PolStep). AddsRows c.deref.result.now s) (sym c.deref-2.ensures.value) c.in_ok-steps.ensures) c.make_row.new.deriv c.in_ok-id.ensures.step c.in_ok-id.id c.note.new.self c.in_ok-id.ensures.id c.in_ok-note.ensures.note
+    (omega (arith, c.pairs.ensures.count, c.if-pairs-eq0.false)) c.deref.result.now c.deref-2.result.now (c.deref.ensures.value ∙ c.in_ok-operands.ensures.are) (subst (λ (s : List PolStep). AddsRows c.deref.result.now s) (sym c.deref-2.ensures.value) c.in_ok-steps.ensures) c.pol_that_fits.new.self c.in_ok-id.ensures.step c.in_ok-id.id c.note.new.self c.in_ok-id.ensures.id c.in_ok-note.ensures.note
 
 pub returns-clause-ready : goal.returns-clause-ready
 returns-clause-ready c =
     ready_again c.args.inst.now c.args.gone.now c.args.deriv.now c.requires.derivation c.requires.ready c.next-next.ensures.in_order c.requires.next c.requires.units (omega (arith, c.pairs.ensures.count, c.pairs.ensures.few)) c.in_ok-operands.ensures.well_formed
-    (omega (arith, c.pairs.ensures.count, c.if-pairs-eq0.false)) c.deref.result.now c.deref-2.result.now (c.deref.ensures.value ∙ c.in_ok-operands.ensures.are) (subst (λ (s : List PolStep). AddsRows c.deref.result.now s) (sym c.deref-2.ensures.value) c.in_ok-steps.ensures) c.make_row.new.deriv c.in_ok-id.ensures.step c.in_ok-id.id c.note.new.self c.in_ok-id.ensures.id c.in_ok-note.ensures.note
+    (omega (arith, c.pairs.ensures.count, c.if-pairs-eq0.false)) c.deref.result.now c.deref-2.result.now (c.deref.ensures.value ∙ c.in_ok-operands.ensures.are) (subst (λ (s : List PolStep). AddsRows c.deref.result.now s) (sym c.deref-2.ensures.value) c.in_ok-steps.ensures) c.pol_that_fits.new.self c.in_ok-id.ensures.step c.in_ok-id.id c.note.new.self c.in_ok-id.ensures.id c.in_ok-note.ensures.note

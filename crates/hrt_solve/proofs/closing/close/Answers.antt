@@ -6,14 +6,14 @@ use Rattle.hrt_solve.specs.Gauged.{HasBoundRow}
 use Rattle.hrt_solve.proofs.ClosingLine.{closing_makes, closing_writable}
 use Rattle.hrt_solve.proofs.closing.close.Goals as goal
 
-pub make_row-requires-clause-writable : goal.make_row-requires-clause-writable
-make_row-requires-clause-writable c =
+pub pol_that_fits-requires-clause-writable : goal.pol_that_fits-requires-clause-writable
+pol_that_fits-requires-clause-writable c =
     closing_writable c.args.deriv.now.lists c.args.gauged.end.ceiling c.args.size c.in-Some.bound c.args.larger c.args.deriv.now
     (subst (λ (l : Lists). pair_count l ≤ 100000) (c.instance.ensures ∙ c.requires.same) (omega (arith, c.pairs-pairs.ensures.count, c.pairs-pairs.ensures.few))) (omega arith) (omega arith)
     (subst (λ (id : Option RowNo). HasBoundRow c.args.deriv.now.lists c.args.gauged.end.ceiling id c.args.deriv.now) c.in-Some.is c.requires.bound) c.requires.larger c.next-next.ensures.in_order (omega (arith, c.requires.next))
 
-pub make_row-requires-clause-made : goal.make_row-requires-clause-made
-make_row-requires-clause-made c =
+pub pol_that_fits-requires-clause-made : goal.pol_that_fits-requires-clause-made
+pol_that_fits-requires-clause-made c =
     closing_makes c.args.deriv.now.lists c.args.gauged.end.ceiling c.args.size c.in-Some.bound c.args.larger c.args.deriv.now
     (subst (λ (l : Lists). pair_count l ≤ 100000) (c.instance.ensures ∙ c.requires.same) (omega (arith, c.pairs-pairs.ensures.count, c.pairs-pairs.ensures.few))) (omega arith) (omega arith)
     (subst (λ (id : Option RowNo). HasBoundRow c.args.deriv.now.lists c.args.gauged.end.ceiling id c.args.deriv.now) c.in-Some.is c.requires.bound) c.requires.larger

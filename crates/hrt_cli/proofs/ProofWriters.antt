@@ -1,5 +1,5 @@
 -- What the commands that write a model and a proof of it come to.
-use Rattle.std.proofs.Common.{◌≡◌, ◌⊎◌, ◌==◌, ℕ, Bool, true, false, cond, List, [], ◌++◌, length, flat_map, codes, Option, Some, None, Result, Ok, Err, IfErr, IfOk, IsTrue, refl, sym, ◌∙◌, ap, subst, inl, inr}
+use Rattle.std.proofs.Common.{◌≡◌, ◌==◌, ℕ, Bool, true, false, cond, List, ◌++◌, length, flat_map, codes, Option, Some, Result, Ok, Err, IfErr, IfOk, IsTrue, refl, sym, ◌∙◌, ap, subst, inl, inr}
 use Rattle.std.proofs.lemmas.List.{length-map}
 use Rattle.hrt_base.specs.declared.failure.WriteEnd.{WriteEnd}
 use Rattle.hrt_base.specs.declared.failure.WriteEnd.TheVariants as end
@@ -15,7 +15,6 @@ use Rattle.hrt_solve.specs.Gauged.{AreNumbersOf, bound_claim}
 use Rattle.hrt_solve.specs.Writing.{IsBoundText, IsProof, IsQuickEnd, IsQuickText}
 use Rattle.hrt_cli.specs.declared.answer.Answer.{Answer}
 use Rattle.hrt_cli.specs.declared.limit.Limit.TheVariants as limit
-use Rattle.hrt_cli.specs.declared.status.Status.{Status}
 use Rattle.hrt_cli.specs.declared.status.Status.TheVariants as status
 use Rattle.hrt_cli.specs.declared.stop.Ended.{Ended}
 use Rattle.hrt_cli.specs.declared.stop.Ended.TheVariants as ended

@@ -1,5 +1,5 @@
 -- What a command that writes outputs comes to, once its instance was loaded.
-use Rattle.std.proofs.Common.{◌≡◌, ◌⊎◌, ℕ, List, [], length, Option, Some, None, Result, Ok, Err, IfErr, IfOk, IsTrue, refl, sym, ◌∙◌, ap, subst, arith, inl, inr}
+use Rattle.std.proofs.Common.{◌≡◌, ◌⊎◌, ℕ, List, [], Option, Some, Result, Ok, Err, IfErr, IfOk, IsTrue, refl, sym, ◌∙◌, ap, subst, arith, inl, inr}
 use Rattle.hrt_base.specs.declared.port.Port.{Port}
 use Rattle.hrt_base.specs.declared.port.Port.TheVariants.{Instance, Pairs, Model, Proof, Report, ModelTwo, ProofTwo}
 use Rattle.hrt_base.specs.declared.host.Begun.{Begun}
@@ -14,7 +14,7 @@ use Rattle.hrt_cli.specs.declared.stop.Stop.{Stop}
 use Rattle.hrt_cli.specs.declared.stop.Stop.TheVariants.{Refused, Exceeded, PairsRefused, ModelRefused, ProofRefused, ReadFault, NoMemory}
 use Rattle.hrt_cli.specs.declared.stop.Ended.{Ended}
 use Rattle.hrt_cli.specs.declared.stop.Ended.TheVariants as ended
-use Rattle.hrt_cli.specs.Answers.{CutShort, EndsEarly, EndsFor, Explains, HasOutputs, IsAnswer, IsTaken, IsWorked, LeavesFronts, PassedAt, is_on_files}
+use Rattle.hrt_cli.specs.Answers.{EndsEarly, EndsFor, Explains, HasOutputs, IsAnswer, IsTaken, IsWorked, LeavesFronts, PassedAt, is_on_files}
 use Rattle.hrt_cli.specs.Inputs.{OnlyRead}
 use Rattle.hrt_cli.specs.Loading.{IsLoaded, IsRejected, StopsLoading}
 use Rattle.hrt_cli.specs.Outputs.{Output, files_after, outputs_of}

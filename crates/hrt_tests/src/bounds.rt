@@ -233,7 +233,10 @@ fn words_of_the_commands(rt: HostRuntime) -> Result<(), Fail> {
         let mut host = host_with(alloc, WORKED, b"")?;
         let words = words(alloc, texts)?;
         assert_eq!(rt; run(alloc, &words, &mut host), 2);
-        assert_eq!(rt; host.sent(Port::Report), b"words not understood\n".as_slice());
+        assert_eq!(rt;
+            host.sent(Port::Report),
+            b"words not understood\n".as_slice()
+        );
         assert_eq!(rt; host.file("m"), None);
         assert_eq!(rt; host.file("p"), None);
     }

@@ -32,7 +32,8 @@ printf 'pair a x\n' > "$work/q"
 printf '%s\n' 'pseudo-Boolean proof version 2.0' 'f 7' 'pol 1 2 +' 'soli ~x1 x2 x3' 'output NONE' \
   'conclusion BOUNDS -2 -2' 'end pseudo-Boolean proof' > "$work/p"
 bad=0
-for words in "solve $work/i" "audit $work/i $work/q" "model $work/i $work/m" "verify $work/i $work/p" "check $work/m $work/p"; do
+for words in "solve $work/i" "audit $work/i $work/q" "model $work/i $work/m" "verify $work/i $work/p" \
+  "check $work/m $work/p" "bound $work/i $work/n $work/o" "quick $work/i $work/n $work/o"; do
   # shellcheck disable=SC2086
   "$program" $words > "$work/whole"
   n=0

@@ -1,27 +1,28 @@
 -- What the end of a run says of the code that it answers.
-use Rattle.std.proofs.Common.{◌≡◌, ◌⊎◌, ℕ, Bool, true, false, ◌==◌, nat_lt, bytes_eq, if◌then◌else◌, List, [], Option, Some, None, Result, Ok, Err, length, refl, sym, ◌∙◌, ap, inl, inr, option_map, cond, subst}
+use Rattle.std.proofs.Common.{◌≡◌, ◌⊎◌, ℕ, zero, suc, Bool, true, false, ◌==◌, ◌||◌, nat_lt, bytes_eq, List, [], ◌∷◌, take, Option, Some, None, Result, Ok, Err, length, refl, sym, ◌∙◌, ap, inl, inr, option_map, cond, subst}
 use Rattle.hrt_base.specs.declared.port.Port.{Port}
 use Rattle.hrt_base.specs.declared.port.Port.TheVariants.{Report}
 use Rattle.hrt_base.specs.declared.host.Begun.TheVariants.{Writing}
 use Rattle.hrt_base.specs.Calls.{Rose}
 use Rattle.hrt_base.specs.World.{World, store}
-use Rattle.opb_text.specs.Spelling.{model_text}
+use Rattle.promotion_heuristic.specs.Promotion.{promotion}
 use Rattle.rank_tables.specs.Instance.{Lists, pair_count}
 use Rattle.rank_tables.specs.Terms.{model_terms}
 use Rattle.hrt_text.specs.Text.{rows}
 use Rattle.hrt_reader.specs.Refusal.{Refusal, Spells, refusal, lists_of_rows}
 use Rattle.hrt_cli.specs.declared.limit.Limit.TheVariants.{Residents, Hospitals, Pairs, TriedPairs, Terms, InstanceBytes}
 use Rattle.hrt_cli.specs.declared.status.Status.{Status}
-use Rattle.hrt_cli.specs.declared.status.Status.TheVariants.{Done, Misused, InstanceRefused, ReadFault, WriteFault, NoMemory, LimitExceeded, ProofRefused, AuditNo, PairsRefused}
+use Rattle.hrt_cli.specs.declared.status.Status.TheVariants.{Done, Misused, InstanceRefused, ReadFault, WriteFault, NoMemory, LimitExceeded, ProofRefused, AuditNo, Bounded, PairsRefused}
 use Rattle.hrt_cli.specs.Limits.{most}
-use Rattle.hrt_cli.specs.Answers.{IsCutShort, LeavesFronts, SendsNothing}
-use Rattle.hrt_cli.specs.Outputs.{Output, files_after, is_output_name, model_outputs, outputs_due, outputs_if_any, outputs_of}
+use Rattle.hrt_cli.specs.Answers.{IsCutShort, LeavesFronts, SendsDue, SendsNothing}
+use Rattle.hrt_cli.specs.Outputs.{Output, SendsAll, files_after, is_output_name, model_outputs, outputs_of, proof_outputs}
 use Rattle.hrt_cli.specs.Reports.{IsReport}
-use Rattle.hrt_cli.specs.Requests.{Request, solve, audit, model, verify, check}
+use Rattle.hrt_cli.specs.Requests.{Request, solve, audit, model, verify, check, bound, quick}
 use Rattle.hrt_cli.specs.Runs.{EndsAs, IsDecided, IsDue, IsReported, Reported, KeepsFiles, KeepsOthers, PrintsBest, has_report, is_code, keeps_files}
 use Rattle.hrt_cli.specs.Statuses.{code_of}
-use Rattle.hrt_cli.specs.Verdicts.{ComesTo, Files, Rejection, Verdict, misused, refused, exceeded, pairs_refused, model_refused, proof_refused, truncated, rejected, solved, audited, modeled, verified, checked, due as due_for, formula_in, formula_of_instance, lists_in, model_verdict, of_few_terms, solve_verdict, status_of, unless_refused, within}
-use Rattle.hrt_cli.proofs.OneVerdict.{one_on_files, some_is}
+use Rattle.hrt_cli.specs.Verdicts.{ComesTo, Files, Rejection, Verdict, misused, refused, exceeded, pairs_refused, model_refused, proof_refused, truncated, rejected, solved, audited, modeled, verified, checked, bounded, matched, due as due_for, lists_in, of_few_terms, solve_verdict, status_of, unless_refused, within}
+use Rattle.hrt_cli.proofs.NamedOutputs.{not_stored}
+use Rattle.hrt_cli.proofs.OneVerdict.{one_told, some_is}
 
 pub read_fault : (told : Type 0) (request : Option Request) (status : Status) (old new : World) → EndsAs told request status old new → code_of status ≡ 4
     → Rose old.read_faults new.read_faults
@@ -35,6 +36,7 @@ read_fault told request LimitExceeded old new ends e = absurd (cc)
 read_fault told request ProofRefused old new ends e = absurd (cc)
 read_fault told request AuditNo old new ends e = absurd (cc)
 read_fault told request PairsRefused old new ends e = absurd (cc)
+read_fault told request Bounded old new ends e = absurd (cc)
 
 pub write_fault : (told : Type 0) (request : Option Request) (status : Status) (old new : World) → EndsAs told request status old new → code_of status ≡ 5
     → Rose old.write_faults new.write_faults
@@ -48,6 +50,7 @@ write_fault told request LimitExceeded old new ends e = absurd (cc)
 write_fault told request ProofRefused old new ends e = absurd (cc)
 write_fault told request AuditNo old new ends e = absurd (cc)
 write_fault told request PairsRefused old new ends e = absurd (cc)
+write_fault told request Bounded old new ends e = absurd (cc)
 
 pub after_read_fault : (told : Type 0) (request : Option Request) (status : Status) (old new : World) → EndsAs told request status old new → told → code_of status ≡ 4
     → SendsNothing old.content new.content
@@ -61,6 +64,7 @@ after_read_fault told request LimitExceeded old new ends t e = absurd (cc)
 after_read_fault told request ProofRefused old new ends t e = absurd (cc)
 after_read_fault told request AuditNo old new ends t e = absurd (cc)
 after_read_fault told request PairsRefused old new ends t e = absurd (cc)
+after_read_fault told request Bounded old new ends t e = absurd (cc)
 
 pub after_write_fault : (told : Type 0) (request : Option Request) (status : Status) (old new : World) → EndsAs told request status old new → told → code_of status ≡ 5
     → IsCutShort request old new
@@ -74,6 +78,7 @@ after_write_fault told request LimitExceeded old new ends t e = absurd (cc)
 after_write_fault told request ProofRefused old new ends t e = absurd (cc)
 after_write_fault told request AuditNo old new ends t e = absurd (cc)
 after_write_fault told request PairsRefused old new ends t e = absurd (cc)
+after_write_fault told request Bounded old new ends t e = absurd (cc)
 
 pub after_no_memory : (told : Type 0) (request : Option Request) (status : Status) (old new : World) → EndsAs told request status old new → told → code_of status ≡ 6
     → LeavesFronts request old.content new.content
@@ -87,6 +92,7 @@ after_no_memory told request LimitExceeded old new ends t e = absurd (cc)
 after_no_memory told request ProofRefused old new ends t e = absurd (cc)
 after_no_memory told request AuditNo old new ends t e = absurd (cc)
 after_no_memory told request PairsRefused old new ends t e = absurd (cc)
+after_no_memory told request Bounded old new ends t e = absurd (cc)
 
 -- a code with a report comes of a report
 pub reported : (told : Type 0) (request : Option Request) (status : Status) (old new : World) → EndsAs told request status old new → has_report (code_of status) ≡ true
@@ -98,6 +104,7 @@ reported told request LimitExceeded old new ends has = ends
 reported told request ProofRefused old new ends has = ends
 reported told request AuditNo old new ends has = ends
 reported told request PairsRefused old new ends has = ends
+reported told request Bounded old new ends has = ends
 reported told request ReadFault old new ends has = absurd (cc)
 reported told request WriteFault old new ends has = absurd (cc)
 reported told request NoMemory old new ends has = absurd (cc)
@@ -107,39 +114,42 @@ pub decided : (told : Type 0) (request : Option Request) (status : Status) (old 
 decided told request status old new ends t has =
     record { status = status; code = refl; reported = (reported told request status old new ends has).reported t }
 
--- the words and the files come to one verdict
-pub one_verdict : (request : Option Request) (files : Files) (a b : Verdict) → ComesTo request files a → ComesTo request files b → a ≡ b
-one_verdict None files a b is is_too = is ∙ sym is_too
-one_verdict (Some (solve instance)) files a b is is_too = some_is a b (sym is ∙ is_too)
-one_verdict (Some (audit instance pairs)) files a b is is_too = some_is a b (sym is ∙ is_too)
-one_verdict (Some (model instance file)) files a b is is_too = some_is a b (sym is ∙ is_too)
-one_verdict (Some (verify instance proof)) files a b is is_too = one_on_files verified formula_of_instance (files instance) (files proof) a b is is_too
-one_verdict (Some (check file proof)) files a b is is_too = one_on_files checked formula_in (files file) (files proof) a b is is_too
+-- the report that was sent is that of each verdict that the words and the files come to
+due_reported : (request : Option Request) (status : Status) (old new : World) → IsReported request status old new → (verdict : Verdict) → ComesTo request old.content.file verdict
+    → (code_of status ≡ code_of (status_of verdict)) × IsReport verdict (new.content.sent Report)
+due_reported request status old new told_of verdict is =
+    let alike = one_told request old.content.file told_of.verdict verdict told_of.due is in
+    (ap code_of (told_of.answered ∙ alike.status), alike.report (new.content.sent Report) told_of.report)
 
-pub due : (told : Type 0) (request : Option Request) (status : Status) (old new : World) → EndsAs told request status old new → told → IsDue request (code_of status) old
-due told request status old new ends t verdict is has =
-    let told_of = (reported told request status old new ends has).reported t in
-    let same : told_of.verdict ≡ verdict = one_verdict request old.content.file told_of.verdict verdict told_of.due is in
-    ap code_of (told_of.answered ∙ ap status_of same)
+pub due : (told : Type 0) (request : Option Request) (status : Status) (old new : World) → EndsAs told request status old new → told → IsDue request (code_of status) old new
+due told request status old new ends t verdict is has = due_reported request status old new ((reported told request status old new ends has).reported t) verdict is
 
 pub closed : (told : Type 0) (request : Option Request) (status : Status) (old new : World) → EndsAs told request status old new → has_report (code_of status) ≡ true
     → (port : Port) → new.begun port ≡ Writing → ⊥
 closed told request status old new ends has = (reported told request status old new ends has).closed
 
--- without a rise of the counts of faults the verdict is answered, or memory was wanting
+-- without a rise of the counts of faults there is a report, or memory was wanting
+pub reported_or : (told : Type 0) (request : Option Request) (status : Status) (old new : World) → EndsAs told request status old new
+    → (Rose old.read_faults new.read_faults → ⊥) → (Rose old.write_faults new.write_faults → ⊥) → Reported told request status old new ⊎ (code_of status ≡ 6)
+reported_or told request ReadFault old new ends unread unwritten = absurd (unread ends.rose)
+reported_or told request WriteFault old new ends unread unwritten = absurd (unwritten ends.rose)
+reported_or told request NoMemory old new ends unread unwritten = inr refl
+reported_or told request Done old new ends unread unwritten = inl ends
+reported_or told request Misused old new ends unread unwritten = inl ends
+reported_or told request InstanceRefused old new ends unread unwritten = inl ends
+reported_or told request LimitExceeded old new ends unread unwritten = inl ends
+reported_or told request ProofRefused old new ends unread unwritten = inl ends
+reported_or told request AuditNo old new ends unread unwritten = inl ends
+reported_or told request Bounded old new ends unread unwritten = inl ends
+reported_or told request PairsRefused old new ends unread unwritten = inl ends
+
 pub complete : (told : Type 0) (request : Option Request) (status : Status) (old new : World) → EndsAs told request status old new → told
     → (Rose old.read_faults new.read_faults → ⊥) → (Rose old.write_faults new.write_faults → ⊥) → (verdict : Verdict) → ComesTo request old.content.file verdict
     → (code_of status ≡ code_of (status_of verdict)) ⊎ (code_of status ≡ 6)
-complete told request ReadFault old new ends t unread unwritten verdict is = absurd (unread ends.rose)
-complete told request WriteFault old new ends t unread unwritten verdict is = absurd (unwritten ends.rose)
-complete told request NoMemory old new ends t unread unwritten verdict is = inr refl
-complete told request Done old new ends t unread unwritten verdict is = inl (due told request Done old new ends t verdict is refl)
-complete told request Misused old new ends t unread unwritten verdict is = inl (due told request Misused old new ends t verdict is refl)
-complete told request InstanceRefused old new ends t unread unwritten verdict is = inl (due told request InstanceRefused old new ends t verdict is refl)
-complete told request LimitExceeded old new ends t unread unwritten verdict is = inl (due told request LimitExceeded old new ends t verdict is refl)
-complete told request ProofRefused old new ends t unread unwritten verdict is = inl (due told request ProofRefused old new ends t verdict is refl)
-complete told request AuditNo old new ends t unread unwritten verdict is = inl (due told request AuditNo old new ends t verdict is refl)
-complete told request PairsRefused old new ends t unread unwritten verdict is = inl (due told request PairsRefused old new ends t verdict is refl)
+complete told request status old new ends t unread unwritten verdict is = elim (reported_or told request status old new ends unread unwritten) [
+  | inl told_of ↦ inl (due_reported request status old new (told_of.reported t) verdict is).0
+  | inr e ↦ inr e
+]
 
 pub misused_code : (told : Type 0) (request : Option Request) (status : Status) (old new : World) → EndsAs told request status old new → code_of status ≡ 2 → request ≡ None
 misused_code told request Misused old new ends e = ends.understood.0 refl
@@ -152,6 +162,7 @@ misused_code told request LimitExceeded old new ends e = absurd (cc)
 misused_code told request ProofRefused old new ends e = absurd (cc)
 misused_code told request AuditNo old new ends e = absurd (cc)
 misused_code told request PairsRefused old new ends e = absurd (cc)
+misused_code told request Bounded old new ends e = absurd (cc)
 
 pub understood_code : (told : Type 0) (request : Option Request) (status : Status) (old new : World) → EndsAs told request status old new → request ≡ None
     → (code_of status ≡ 2) ⊎ (code_of status ≡ 5)
@@ -163,6 +174,7 @@ understood_code told request LimitExceeded old new ends e = inl (ap code_of (end
 understood_code told request ProofRefused old new ends e = inl (ap code_of (ends.understood.1 e))
 understood_code told request AuditNo old new ends e = inl (ap code_of (ends.understood.1 e))
 understood_code told request PairsRefused old new ends e = inl (ap code_of (ends.understood.1 e))
+understood_code told request Bounded old new ends e = inl (ap code_of (ends.understood.1 e))
 understood_code told request ReadFault old new ends e = absurd (ends.understood e)
 understood_code told request NoMemory old new ends e = absurd (ends.understood e)
 
@@ -171,84 +183,139 @@ understood_code told request NoMemory old new ends e = absurd (ends.understood e
 abbrev no_outputs : List Output
 no_outputs = []
 
--- nothing is written for a verdict that isn't done
-none_written : (request : Option Request) (verdict : Verdict) → (status_of verdict ≡ Done → ⊥) → outputs_of request verdict ≡ no_outputs
-none_written None verdict other = refl
-none_written (Some (solve instance)) verdict other = refl
-none_written (Some (audit instance pairs)) verdict other = refl
-none_written (Some (verify instance proof)) verdict other = refl
-none_written (Some (check file proof)) verdict other = refl
-none_written (Some (model instance file)) misused other = refl
-none_written (Some (model instance file)) (rejected rejection) other = refl
-none_written (Some (model instance file)) (solved lists) other = refl
-none_written (Some (model instance file)) (audited lists pairs) other = refl
-none_written (Some (model instance file)) (verified claim) other = refl
-none_written (Some (model instance file)) (checked claim) other = refl
-none_written (Some (model instance file)) (modeled lists) other = absurd (other refl)
+-- nothing is written for a verdict without a matching or a model
+model_unwritten : (name : List ℕ) (verdict : Verdict) → (status_of verdict ≡ Done → ⊥) → model_outputs name verdict ≡ no_outputs
+model_unwritten name misused other = refl
+model_unwritten name (rejected rejection) other = refl
+model_unwritten name (solved lists) other = refl
+model_unwritten name (audited lists pairs) other = refl
+model_unwritten name (verified claim) other = refl
+model_unwritten name (checked claim) other = refl
+model_unwritten name (bounded lists deleted top text) other = refl
+model_unwritten name (matched lists deleted top text) other = refl
+model_unwritten name (modeled lists) other = absurd (other refl)
 
-kept_unwritten : (request : Option Request) (status : Status) (old new : World) → (status ≡ Done → ⊥) → IsReported request status old new → KeepsFiles old.content new.content
-kept_unwritten request status old new other told_of name =
+done_or_bounded : (b : Bool) → (cond b Done Bounded ≡ Done → ⊥) → (cond b Done Bounded ≡ Bounded → ⊥) → ⊥
+done_or_bounded true other open_too = other refl
+done_or_bounded false other open_too = open_too refl
+
+proof_unwritten : (name proof : List ℕ) (verdict : Verdict) → (status_of verdict ≡ Done → ⊥) → (status_of verdict ≡ Bounded → ⊥) → proof_outputs name proof verdict ≡ no_outputs
+proof_unwritten name proof misused other open_too = refl
+proof_unwritten name proof (rejected rejection) other open_too = refl
+proof_unwritten name proof (solved lists) other open_too = refl
+proof_unwritten name proof (audited lists pairs) other open_too = refl
+proof_unwritten name proof (modeled lists) other open_too = refl
+proof_unwritten name proof (verified claim) other open_too = refl
+proof_unwritten name proof (checked claim) other open_too = refl
+proof_unwritten name proof (bounded lists deleted top text) other open_too = absurd (other refl)
+proof_unwritten name proof (matched lists deleted top text) other open_too = absurd (done_or_bounded (length (promotion lists) == top) other open_too)
+
+none_written : (request : Option Request) (verdict : Verdict) → (status_of verdict ≡ Done → ⊥) → (status_of verdict ≡ Bounded → ⊥) → outputs_of request verdict ≡ no_outputs
+none_written None verdict other open_too = refl
+none_written (Some (solve instance)) verdict other open_too = refl
+none_written (Some (audit instance pairs)) verdict other open_too = refl
+none_written (Some (verify instance proof)) verdict other open_too = refl
+none_written (Some (check file proof)) verdict other open_too = refl
+none_written (Some (model instance file)) verdict other open_too = model_unwritten file verdict other
+none_written (Some (bound instance file proof)) verdict other open_too = proof_unwritten file proof verdict other open_too
+none_written (Some (quick instance file proof)) verdict other open_too = proof_unwritten file proof verdict other open_too
+
+kept_unwritten : (request : Option Request) (status : Status) (old new : World) → (status ≡ Done → ⊥) → (status ≡ Bounded → ⊥) → IsReported request status old new → KeepsFiles old.content new.content
+kept_unwritten request status old new other open_too told_of name =
     told_of.sends.files name
-    ∙ ap (λ (outputs : List Output). files_after outputs old.content.file name) (none_written request told_of.verdict (λ e. other (told_of.answered ∙ e)))
+    ∙ ap (λ (outputs : List Output). files_after outputs old.content.file name)
+    (none_written request told_of.verdict (λ e. other (told_of.answered ∙ e)) (λ e. open_too (told_of.answered ∙ e)))
 
 pub files_kept : (told : Type 0) (request : Option Request) (status : Status) (old new : World) → EndsAs told request status old new → told → keeps_files (code_of status) ≡ true → KeepsFiles old.content new.content
 files_kept told request ReadFault old new ends t e = (ends.nothing t).files
 files_kept told request NoMemory old new ends t e = absurd (cc)
 files_kept told request WriteFault old new ends t e = absurd (cc)
 files_kept told request Done old new ends t e = absurd (cc)
-files_kept told request Misused old new ends t e = kept_unwritten request Misused old new (λ d. absurd (cc)) (ends.reported t)
-files_kept told request InstanceRefused old new ends t e = kept_unwritten request InstanceRefused old new (λ d. absurd (cc)) (ends.reported t)
-files_kept told request LimitExceeded old new ends t e = kept_unwritten request LimitExceeded old new (λ d. absurd (cc)) (ends.reported t)
-files_kept told request ProofRefused old new ends t e = kept_unwritten request ProofRefused old new (λ d. absurd (cc)) (ends.reported t)
-files_kept told request AuditNo old new ends t e = kept_unwritten request AuditNo old new (λ d. absurd (cc)) (ends.reported t)
-files_kept told request PairsRefused old new ends t e = kept_unwritten request PairsRefused old new (λ d. absurd (cc)) (ends.reported t)
+files_kept told request Misused old new ends t e = kept_unwritten request Misused old new (λ d. absurd (cc)) (λ d. absurd (cc)) (ends.reported t)
+files_kept told request InstanceRefused old new ends t e = kept_unwritten request InstanceRefused old new (λ d. absurd (cc)) (λ d. absurd (cc)) (ends.reported t)
+files_kept told request LimitExceeded old new ends t e = kept_unwritten request LimitExceeded old new (λ d. absurd (cc)) (λ d. absurd (cc)) (ends.reported t)
+files_kept told request ProofRefused old new ends t e = kept_unwritten request ProofRefused old new (λ d. absurd (cc)) (λ d. absurd (cc)) (ends.reported t)
+files_kept told request AuditNo old new ends t e = kept_unwritten request AuditNo old new (λ d. absurd (cc)) (λ d. absurd (cc)) (ends.reported t)
+files_kept told request PairsRefused old new ends t e = kept_unwritten request PairsRefused old new (λ d. absurd (cc)) (λ d. absurd (cc)) (ends.reported t)
+files_kept told request Bounded old new ends t e = absurd (cc)
 
-not_stored : (file text : List ℕ) (files : Files) (name : List ℕ) → bytes_eq name file ≡ false → store file text files name ≡ files name
-not_stored file text files name e = rw e (by (length file == 0))
+-- no output has this name
+abbrev NoneNamed : List ℕ → List Output → Type 0
+NoneNamed name [] = Unit {0}
+NoneNamed name (o ∷ outputs) = (bytes_eq name o.name ≡ false) × NoneNamed name outputs
+
+neither : (a b : Bool) → (a || b) ≡ false → (a ≡ false) × (b ≡ false)
+neither true b e = absurd (cc)
+neither false b e = (refl, e)
+
+model_unnamed : (file : List ℕ) (verdict : Verdict) (name : List ℕ) → bytes_eq name file ≡ false → NoneNamed name (model_outputs file verdict)
+model_unnamed file misused name e = tt
+model_unnamed file (rejected rejection) name e = tt
+model_unnamed file (solved lists) name e = tt
+model_unnamed file (audited lists pairs) name e = tt
+model_unnamed file (verified claim) name e = tt
+model_unnamed file (checked claim) name e = tt
+model_unnamed file (bounded lists deleted top text) name e = tt
+model_unnamed file (matched lists deleted top text) name e = tt
+model_unnamed file (modeled lists) name e = (e, tt)
+
+proof_unnamed : (file proof : List ℕ) (verdict : Verdict) (name : List ℕ) → bytes_eq name file ≡ false → bytes_eq name proof ≡ false → NoneNamed name (proof_outputs file proof verdict)
+proof_unnamed file proof misused name e f = tt
+proof_unnamed file proof (rejected rejection) name e f = tt
+proof_unnamed file proof (solved lists) name e f = tt
+proof_unnamed file proof (audited lists pairs) name e f = tt
+proof_unnamed file proof (modeled lists) name e f = tt
+proof_unnamed file proof (verified claim) name e f = tt
+proof_unnamed file proof (checked claim) name e f = tt
+proof_unnamed file proof (bounded lists deleted top text) name e f = (e, (f, tt))
+proof_unnamed file proof (matched lists deleted top text) name e f = (e, (f, tt))
+
+unnamed : (request : Option Request) (verdict : Verdict) (name : List ℕ) → is_output_name request name ≡ false → NoneNamed name (outputs_of request verdict)
+unnamed None verdict name e = tt
+unnamed (Some (solve instance)) verdict name e = tt
+unnamed (Some (audit instance pairs)) verdict name e = tt
+unnamed (Some (verify instance proof)) verdict name e = tt
+unnamed (Some (check file proof)) verdict name e = tt
+unnamed (Some (model instance file)) verdict name e = model_unnamed file verdict name e
+unnamed (Some (bound instance file proof)) verdict name e =
+    let apart = neither (bytes_eq name file) (bytes_eq name proof) e in proof_unnamed file proof verdict name apart.0 apart.1
+unnamed (Some (quick instance file proof)) verdict name e =
+    let apart = neither (bytes_eq name file) (bytes_eq name proof) e in proof_unnamed file proof verdict name apart.0 apart.1
+
+-- a file that no output names
+kept_else : (outputs : List Output) (files : Files) (name : List ℕ) → NoneNamed name outputs → files_after outputs files name ≡ files name
+kept_else [] files name none = refl
+kept_else (o ∷ outputs) files name none = kept_else outputs (store o.name o.text files) name none.1 ∙ not_stored o.name o.text files name none.0
+
+none_of_first : (k : ℕ) (outputs : List Output) (name : List ℕ) → NoneNamed name outputs → NoneNamed name (take k outputs)
+none_of_first zero outputs name none = tt
+none_of_first (suc k) [] name none = tt
+none_of_first (suc k) (o ∷ outputs) name none = (none.0, none_of_first k outputs name none.1)
+
+kept_left : (request : Option Request) (old new : World) → LeavesFronts request old.content new.content → KeepsOthers request old.content new.content
+kept_left request old new left name e = by left.sends
   where
-    by : (b : Bool) → (if b then files name else files name) ≡ files name
-    by true = refl
-    by false = refl
+    by : SendsNothing old.content new.content ⊎ SendsDue request old.content new.content → new.content.file name ≡ old.content.file name
+    by (inl nothing) = nothing.files name
+    by (inr parts) =
+        let outputs : List Output = outputs_of request parts.verdict in
+        parts.sends.files name
+        ∙ kept_else (take parts.sends.whole outputs) old.content.file name (none_of_first parts.sends.whole outputs name (unnamed request parts.verdict name e))
 
--- a file that no word names as an output
-kept_else : (request : Option Request) (verdict : Verdict) (files : Files) (name : List ℕ) → is_output_name request name ≡ false → files_after (outputs_of request verdict) files name ≡ files name
-kept_else None verdict files name e = refl
-kept_else (Some (solve instance)) verdict files name e = refl
-kept_else (Some (audit instance pairs)) verdict files name e = refl
-kept_else (Some (verify instance proof)) verdict files name e = refl
-kept_else (Some (check file proof)) verdict files name e = refl
-kept_else (Some (model instance file)) misused files name e = refl
-kept_else (Some (model instance file)) (rejected rejection) files name e = refl
-kept_else (Some (model instance file)) (solved lists) files name e = refl
-kept_else (Some (model instance file)) (audited lists pairs) files name e = refl
-kept_else (Some (model instance file)) (verified claim) files name e = refl
-kept_else (Some (model instance file)) (checked claim) files name e = refl
-kept_else (Some (model instance file)) (modeled lists) files name e = not_stored file (model_text lists) files name e
+kept_sent : (request : Option Request) (verdict : Verdict) (old new : World) → SendsAll (outputs_of request verdict) old.content new.content → KeepsOthers request old.content new.content
+kept_sent request verdict old new sends name e = sends.files name ∙ kept_else (outputs_of request verdict) old.content.file name (unnamed request verdict name e)
 
-kept_if_any : (file : List ℕ) (verdict : Option Verdict) (files : Files) (name : List ℕ) → bytes_eq name file ≡ false → files_after (outputs_if_any (model_outputs file) verdict) files name ≡ files name
-kept_if_any file None files name e = refl
-kept_if_any file (Some verdict) files name e = kept_else (Some (model [] file)) verdict files name e
-
-kept_due : (request : Option Request) (files : Files) (name : List ℕ) → is_output_name request name ≡ false → files_after (outputs_due request files) files name ≡ files name
-kept_due None files name e = refl
-kept_due (Some (solve instance)) files name e = refl
-kept_due (Some (audit instance pairs)) files name e = refl
-kept_due (Some (verify instance proof)) files name e = refl
-kept_due (Some (check file proof)) files name e = refl
-kept_due (Some (model instance file)) files name e = kept_if_any file (option_map model_verdict (files instance)) files name e
-
-either_kept : (a b c : Option (List ℕ)) → (a ≡ b) ⊎ (a ≡ c) → c ≡ b → a ≡ b
-either_kept a b c (inl e) f = e
-either_kept a b c (inr e) f = e ∙ f
+kept_cut : (request : Option Request) (old new : World) → IsCutShort request old new → KeepsOthers request old.content new.content
+kept_cut request old new (inl before) = kept_left request old new before.leaves
+kept_cut request old new (inr report) = kept_sent request report.verdict old new report.sends
 
 kept_reported : (request : Option Request) (status : Status) (old new : World) → IsReported request status old new → KeepsOthers request old.content new.content
-kept_reported request status old new told_of name e = told_of.sends.files name ∙ kept_else request told_of.verdict old.content.file name e
+kept_reported request status old new told_of = kept_sent request told_of.verdict old new told_of.sends
 
 pub others_kept : (told : Type 0) (request : Option Request) (status : Status) (old new : World) → EndsAs told request status old new → told → KeepsOthers request old.content new.content
 others_kept told request ReadFault old new ends t name e = (ends.nothing t).files name
-others_kept told request NoMemory old new ends t name e = either_kept _ _ _ ((ends.fronts t).sends.files name) (kept_due request old.content.file name e)
-others_kept told request WriteFault old new ends t name e =
-    let cut = ends.cut_short t in either_kept _ _ _ (cut.sends.files name) (kept_else request cut.verdict old.content.file name e)
+others_kept told request NoMemory old new ends t name e = kept_left request old new (ends.fronts t) name e
+others_kept told request WriteFault old new ends t name e = kept_cut request old new (ends.cut_short t) name e
 others_kept told request Done old new ends t name e = kept_reported request Done old new (ends.reported t) name e
 others_kept told request Misused old new ends t name e = kept_reported request Misused old new (ends.reported t) name e
 others_kept told request InstanceRefused old new ends t name e = kept_reported request InstanceRefused old new (ends.reported t) name e
@@ -256,6 +323,7 @@ others_kept told request LimitExceeded old new ends t name e = kept_reported req
 others_kept told request ProofRefused old new ends t name e = kept_reported request ProofRefused old new (ends.reported t) name e
 others_kept told request AuditNo old new ends t name e = kept_reported request AuditNo old new (ends.reported t) name e
 others_kept told request PairsRefused old new ends t name e = kept_reported request PairsRefused old new (ends.reported t) name e
+others_kept told request Bounded old new ends t name e = kept_reported request Bounded old new (ends.reported t) name e
 
 pub known : (status : Status) → is_code (code_of status) ≡ true
 known Done = refl
@@ -268,6 +336,7 @@ known LimitExceeded = refl
 known ProofRefused = refl
 known AuditNo = refl
 known PairsRefused = refl
+known Bounded = refl
 
 -- ---- the printed pairs
 
@@ -351,6 +420,8 @@ IsOnSolve (audited lists pairs) = ⊥
 IsOnSolve (modeled lists) = ⊥
 IsOnSolve (verified claim) = ⊥
 IsOnSolve (checked claim) = ⊥
+IsOnSolve (bounded lists deleted top text) = ⊥
+IsOnSolve (matched lists deleted top text) = ⊥
 
 due_on_solve : (r : Result Lists Rejection) (verdict : Verdict) → due_for r solved ≡ verdict → IsOnSolve verdict
 due_on_solve (Err rejection) verdict e = subst IsOnSolve e tt
@@ -377,6 +448,8 @@ prints_best instance old new (audited lists pairs) is e report = absurd (on_solv
 prints_best instance old new (modeled lists) is e report = absurd (on_solve (old.content.file instance) (modeled lists) is)
 prints_best instance old new (verified claim) is e report = absurd (on_solve (old.content.file instance) (verified claim) is)
 prints_best instance old new (checked claim) is e report = absurd (on_solve (old.content.file instance) (checked claim) is)
+prints_best instance old new (bounded lists deleted top text) is e report = absurd (on_solve (old.content.file instance) (bounded lists deleted top text) is)
+prints_best instance old new (matched lists deleted top text) is e report = absurd (on_solve (old.content.file instance) (matched lists deleted top text) is)
 prints_best instance old new (solved lists) is e report =
     let file = spelled_in (old.content.file instance) lists is in
     record { bytes = file.bytes; file = file.is_file; lists = lists; spelled = file.spells; pairs = report.pairs; best = report.best; rising = report.rising; report = report.is_report }

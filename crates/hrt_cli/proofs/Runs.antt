@@ -1,6 +1,5 @@
 -- From what a run did to how it ended.
-use Rattle.std.proofs.Common.{◌≡◌, ℕ, List, [], ◌++◌, ◌⊎◌, take, length, Option, None, refl, sym, ◌∙◌, ap, subst, arith, inl, inr, IsTrue, codes}
-use Rattle.std.proofs.lemmas.List.{take_all}
+use Rattle.std.proofs.Common.{◌≡◌, ℕ, List, [], ◌++◌, ◌⊎◌, take, Option, None, refl, sym, ◌∙◌, ap, subst, arith, inl, inr, IsTrue, codes}
 use Rattle.std.proofs.lemmas.Bool.{cases_eq}
 use Rattle.std.proofs.lemmas.Bool.Decides.{nat_tests}
 use Rattle.hrt_base.specs.declared.port.Port.{Port}
@@ -12,12 +11,12 @@ use Rattle.hrt_base.specs.World.{World, Content, port_no, put, store}
 use Rattle.hrt_base.proofs.Pieces.{port_no-injective, put_here}
 use Rattle.hrt_cli.specs.declared.answer.Answer.{Answer}
 use Rattle.hrt_cli.specs.declared.status.Status.{Status}
-use Rattle.hrt_cli.specs.declared.status.Status.TheVariants.{Done, Misused, InstanceRefused, ReadFault, WriteFault, NoMemory, LimitExceeded, ProofRefused, AuditNo, PairsRefused}
+use Rattle.hrt_cli.specs.declared.status.Status.TheVariants.{Done, Misused, InstanceRefused, ReadFault, WriteFault, NoMemory, LimitExceeded, ProofRefused, AuditNo, Bounded, PairsRefused}
 use Rattle.hrt_cli.specs.declared.stop.Ended.{Ended}
 use Rattle.hrt_cli.specs.declared.stop.Ended.TheVariants as ended
 use Rattle.hrt_cli.specs.Answers.{CutShort, EndsEarly, GivesUp, IsAnswered, IsReadOut, IsWorked, LeavesFronts, PassedAt, SendsNothing, is_on_files}
 use Rattle.hrt_cli.specs.Inputs.{OnlyRead}
-use Rattle.hrt_cli.specs.Outputs.{Output, SendsAll, SendsFronts, files_after, outputs_of, text_on}
+use Rattle.hrt_cli.specs.Outputs.{Output, SendsAll, files_after, outputs_of, text_on}
 use Rattle.hrt_cli.specs.Reports.{IsReport, line}
 use Rattle.hrt_cli.specs.Requests.{Request}
 use Rattle.hrt_cli.specs.Runs.{IsSentWhole, IsReported, Reported, EndsAs}
@@ -115,7 +114,7 @@ nothing_after told old mid start read t = record { sent = sent_before told old m
 pub leaves_nothing : (told : Type 0) (request : Option Request) (old mid : World) → AtStart told old → OnlyRead told old mid → told → LeavesFronts request old.content mid.content
 leaves_nothing told request old mid start read t = record {
   silent = sent_before told old mid start read t Report;
-  sends = record { sent = λ p other. (0, sent_before told old mid start read t p); files = λ name. inl (file_before told old mid read t name) };
+  sends = inl (nothing_after told old mid start read t);
 }
 
 pub read_ends : (told : Type 0) (request : Option Request) (ended : Ended) (old mid : World) → AtStart told old → GivesUp told ended old mid → EndsEarly told request ended old mid
@@ -144,6 +143,7 @@ ends_on_files told request NoMemory old new on asked closed reported = absurd (c
 ends_on_files told request LimitExceeded old new on asked closed reported = reported_of told request LimitExceeded old new (λ e. absurd (cc)) asked closed reported
 ends_on_files told request ProofRefused old new on asked closed reported = reported_of told request ProofRefused old new (λ e. absurd (cc)) asked closed reported
 ends_on_files told request AuditNo old new on asked closed reported = reported_of told request AuditNo old new (λ e. absurd (cc)) asked closed reported
+ends_on_files told request Bounded old new on asked closed reported = reported_of told request Bounded old new (λ e. absurd (cc)) asked closed reported
 ends_on_files told request PairsRefused old new on asked closed reported = reported_of told request PairsRefused old new (λ e. absurd (cc)) asked closed reported
 
 whole_sends : (told : Type 0) (text : List ℕ) (outputs : List Output) (old mid new : World) → SendsAll outputs old.content mid.content → mid.content.name Report ≡ [] → IsSentWhole told text mid new → told
@@ -198,12 +198,6 @@ part_sends told text outputs old mid new sends sent t = record {
   files = λ name. ap (λ (c : Content). c.file name) (sent.content t) ∙ sends.files name;
 }
 
-pub all_as_fronts : (outputs : List Output) (old new : Content) → SendsAll outputs old new → SendsFronts outputs old new
-all_as_fronts outputs old new sends = record {
-  sent = λ p other. let text : List ℕ = text_on p outputs in (length text, sends.sent p other ∙ sym (take_all (length text) text (omega arith)));
-  files = λ name. inr (sends.files name);
-}
-
 part_text : (told : Type 0) (text : List ℕ) (mid new : World) → mid.content.sent Report ≡ [] → Sent told Report text mid new → told → new.content.sent Report ≡ text
 part_text told text mid new silent sent t = ap (λ (c : Content). c.sent Report) (sent.content t) ∙ ap (λ (l : List ℕ). l ++ text) silent
 
@@ -219,7 +213,7 @@ cut_short told request answer old mid new worked part = record {
   cut_short = λ t.
       let due = worked.due t in
       let sends = part_sends told (take part.part.0 answer.report) (outputs_of request due.verdict) old mid new due.sends part.part.1 t in
-      record {
+      inr (record {
         verdict = due.verdict;
         due = due.due;
         text = answer.report;
@@ -227,9 +221,8 @@ cut_short told request answer old mid new worked part = record {
         count = part.part.0;
         front = part_text told (take part.part.0 answer.report) mid new due.silent part.part.1 t;
         read_out = part_read_out told (take part.part.0 answer.report) mid new due.verdict part.part.1 t due.read_out;
-        sends = all_as_fronts (outputs_of request due.verdict) old.content new.content sends;
-        report_last = inr sends;
-      };
+        sends = sends;
+      });
 }
 
 -- ---- words that ask for nothing
@@ -258,7 +251,7 @@ misused_cut told text old new start is part = record {
   rose = part.rose;
   cut_short = λ t.
       let sends = part_sends told (take part.part.0 text) [] old old new (nothing_yet told old start t) part.part.1 t in
-      record {
+      inr (record {
         verdict = misused;
         due = refl;
         text = text;
@@ -266,7 +259,6 @@ misused_cut told text old new start is part = record {
         count = part.part.0;
         front = part_text told (take part.part.0 text) old new (start.sent t Report) part.part.1 t;
         read_out = part_read_out told (take part.part.0 text) old new misused part.part.1 t (λ p reading. absurd (reads_nothing told old start p reading));
-        sends = all_as_fronts [] old.content new.content sends;
-        report_last = inr sends;
-      };
+        sends = sends;
+      });
 }

@@ -1,16 +1,18 @@
 -- What a run answers for a verdict.
-use Rattle.std.specs.Prelude.{◌≡◌, ◌⊎◌, ◌≤◌, ℕ, Bool, true, false, IsTrue, List, [], take, Option, IfSome}
+use Rattle.std.specs.Prelude.{◌≡◌, ◌⊎◌, ◌≤◌, ℕ, Bool, true, false, IsTrue, List, [], take, Option, Some, None, IfSome, Ok}
 use Rattle.hrt_base.specs.declared.port.Port.{Port}
 use Rattle.hrt_base.specs.declared.port.Port.TheVariants.{Instance, Pairs, Model, Proof, Report, ModelTwo, ProofTwo}
 use Rattle.hrt_base.specs.declared.host.Begun.TheVariants.{Reading, Writing}
 use Rattle.hrt_base.specs.World.{World, Content, port_no}
 use Rattle.hrt_base.specs.Calls.{Rose}
+use Rattle.rank_tables.specs.Instance.{Lists}
 use Rattle.hrt_reader.specs.Kinds.{number}
 use Rattle.hrt_reader.specs.PairsAnswer.{pairs_number}
 use Rattle.proof_lines.specs.declared.line.Claim.{Claim}
 use Rattle.proof_checker.specs.declared.refusal.ProofRefusal.{ProofRefusal}
 use Rattle.proof_checker.specs.Answers.{refusal_verdict}
 use Rattle.hrt_cli.specs.declared.limit.Limit.TheVariants.{InstanceBytes, PairsBytes, ModelBytes, ProofBytes}
+use Rattle.hrt_cli.specs.declared.limit.Limit.TheVariants as limit
 use Rattle.hrt_cli.specs.declared.answer.Answer.{Answer}
 use Rattle.hrt_cli.specs.declared.status.Status.{Status}
 use Rattle.hrt_cli.specs.declared.status.Status.TheVariants as status
@@ -20,10 +22,10 @@ use Rattle.hrt_cli.specs.declared.stop.Ended.{Ended}
 use Rattle.hrt_cli.specs.declared.stop.Ended.TheVariants as ended
 use Rattle.hrt_cli.specs.Inputs.{OnlyRead}
 use Rattle.hrt_cli.specs.Loading.{FailedToRead}
-use Rattle.hrt_cli.specs.Outputs.{SendsAll, SendsFronts, outputs_due, outputs_of}
+use Rattle.hrt_cli.specs.Outputs.{SendsAll, SendsFronts, outputs_of}
 use Rattle.hrt_cli.specs.Reports.{IsReport}
-use Rattle.hrt_cli.specs.Requests.{Request}
-use Rattle.hrt_cli.specs.Verdicts.{Verdict, rejected, refused, exceeded, pairs_refused, model_refused, ComesTo, on_verdict, status_of}
+use Rattle.hrt_cli.specs.Requests.{Request, solve, audit, model, verify, check, bound, quick}
+use Rattle.hrt_cli.specs.Verdicts.{Verdict, rejected, refused, exceeded, pairs_refused, model_refused, ComesTo, Files, lists_in, of_few_terms, on_verdict, status_of, within}
 
 -- a status that tells a verdict on the files
 abbrev pub is_on_files : Status → Bool
@@ -36,6 +38,7 @@ is_on_files status.NoMemory = false
 is_on_files status.LimitExceeded = true
 is_on_files status.ProofRefused = true
 is_on_files status.AuditNo = true
+is_on_files status.Bounded = true
 is_on_files status.PairsRefused = true
 
 -- the status and the report of a verdict
@@ -110,8 +113,48 @@ pub record IsWorked (told : Type 0) (request : Option Request) (answer : Answer)
   pub on_files : IsTrue (is_on_files answer.status)
   pub due : told → IsWorkDone request answer old new
 
--- a front of the report of what the words and the files come to was sent, and before it fronts of the outputs, or all whole
-pub record IsCutShort (request : Option Request) (old new : World) : Type 0 where
+-- nothing was sent, and the files are as they were
+pub record SendsNothing (old new : Content) : Type 0 where
+  pub sent : (port : Port) → new.sent port ≡ []
+  pub files : (name : List ℕ) → new.file name ≡ old.file name
+
+-- fronts of the outputs were sent of what the words and the files come to
+pub record SendsDue (request : Option Request) (old new : Content) : Type 0 where
+  pub verdict : Verdict
+  pub due : ComesTo request old.file verdict
+  pub sends : SendsFronts (outputs_of request verdict) old new
+
+-- nothing was sent, or fronts of the outputs, and no byte of the report
+pub record LeavesFronts (request : Option Request) (old new : Content) : Type 0 where
+  pub silent : new.sent Report ≡ []
+  pub sends : SendsNothing old new ⊎ SendsDue request old new
+
+-- the file is an instance that is taken
+pub record IsTaken (file : Option (List ℕ)) : Type 0 where
+  pub bytes : List ℕ
+  pub is_file : file ≡ Some bytes
+  pub lists : Lists
+  pub taken : of_few_terms (within limit.Pairs (lists_in bytes)) ≡ Ok lists
+
+-- the command has outputs, and its inputs are taken
+abbrev pub HasOutputs : Option Request → Files → Type 0
+HasOutputs None files = ⊥
+HasOutputs (Some (solve instance)) files = ⊥
+HasOutputs (Some (audit instance pairs)) files = ⊥
+HasOutputs (Some (model instance file)) files = IsTaken (files instance)
+HasOutputs (Some (verify instance proof)) files = ⊥
+HasOutputs (Some (check file proof)) files = ⊥
+HasOutputs (Some (bound instance file proof)) files = IsTaken (files instance)
+HasOutputs (Some (quick instance file proof)) files = IsTaken (files instance)
+
+-- the outputs were cut short: each input was read to its end, and no byte of the report was sent
+pub record IsCutBefore (request : Option Request) (old new : World) : Type 0 where
+  pub has_outputs : HasOutputs request old.content.file
+  pub read_out : (port : Port) → new.begun port ≡ Reading → new.content.rest port ≡ []
+  pub leaves : LeavesFronts request old.content new.content
+
+-- a front was sent of the report of what the words and the files come to, and before it the outputs whole
+pub record IsCutAtReport (request : Option Request) (old new : World) : Type 0 where
   pub verdict : Verdict
   pub due : ComesTo request old.content.file verdict
   pub text : List ℕ
@@ -119,22 +162,15 @@ pub record IsCutShort (request : Option Request) (old new : World) : Type 0 wher
   pub count : ℕ
   pub front : new.content.sent Report ≡ take count text
   pub read_out : IsReadOut verdict new
-  pub sends : SendsFronts (outputs_of request verdict) old.content new.content
-  pub report_last : (new.content.sent Report ≡ []) ⊎ SendsAll (outputs_of request verdict) old.content new.content
+  pub sends : SendsAll (outputs_of request verdict) old.content new.content
+
+-- the run was cut short at its outputs or at its report
+abbrev pub IsCutShort : Option Request → World → World → Type 0
+IsCutShort request old new = IsCutBefore request old new ⊎ IsCutAtReport request old new
 
 pub record CutShort (told : Type 0) (request : Option Request) (old new : World) : Type 0 where
   pub rose : Rose old.write_faults new.write_faults
   pub cut_short : told → IsCutShort request old new
-
--- nothing was sent, and the files are as they were
-pub record SendsNothing (old new : Content) : Type 0 where
-  pub sent : (port : Port) → new.sent port ≡ []
-  pub files : (name : List ℕ) → new.file name ≡ old.file name
-
--- fronts of the outputs were sent, and no byte of the report
-pub record LeavesFronts (request : Option Request) (old new : Content) : Type 0 where
-  pub silent : new.sent Report ≡ []
-  pub sends : SendsFronts (outputs_due request old.file) old new
 
 pub record ReadFailed (told : Type 0) (old new : World) : Type 0 where
   pub rose : Rose old.read_faults new.read_faults

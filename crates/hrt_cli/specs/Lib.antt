@@ -7,6 +7,6 @@ pub mod Proofs
 pub mod Reports
 pub mod Requests
 pub mod Runs
-pub mod Saving
 pub mod Statuses
 pub mod Verdicts
+pub mod Writing

@@ -1,11 +1,12 @@
 -- The texts of reports. Each line ends with a line feed.
-use Rattle.std.specs.Prelude.{◌≡◌, ◌<◌, ℕ, ◌==◌, if◌then◌else◌, List, [], ◌∷◌, ◌++◌, length, flat_map, decimal, codes, slice_get, unwrap_or, ℤ, neg_ℤ, Option, Some, None, IfSome, option_map}
+use Rattle.std.specs.Prelude.{◌≡◌, ◌<◌, ℕ, ◌==◌, if◌then◌else◌, List, [], ◌∷◌, ◌++◌, length, flat_map, decimal, codes, ℤ, neg_ℤ, Option, Some, None, IfSome, option_map}
 use Rattle.std.specs.Fmt.{signed_decimal}
 use Rattle.std.specs.List.Sorted.{IsStrictlyIncreasing}
 use Rattle.rank_tables.specs.Instance.{Lists, pair_count, pair_at, one_sided}
 use Rattle.rank_tables.specs.WellFormed.{names_of_residents, names_of_hospitals}
 use Rattle.rank_tables.specs.Stability.{Best}
-use Rattle.rank_tables.specs.Tables.{IsPairNo}
+use Rattle.rank_tables.specs.Tables.{IsPairNo, numbers_of}
+use Rattle.hrt_reader.specs.Spelling.{name_at}
 use Rattle.stability_audit.specs.declared.verdict.Verdict.{Verdict as Audit}
 use Rattle.stability_audit.specs.declared.verdict.Verdict.TheVariants.{Stable, ResidentTwice, OverCapacity, Blocked}
 use Rattle.stability_audit.specs.Verdict.{verdict_of as audit_of}
@@ -16,11 +17,13 @@ use Rattle.proof_rules.specs.Refusals as why
 use Rattle.proof_rules.specs.Refusals.{Refusal, RefusalAt}
 use Rattle.proof_checker.specs.declared.refusal.ProofRefusal.{ProofRefusal}
 use Rattle.proof_checker.specs.Answers.{refusal_verdict}
+use Rattle.promotion_heuristic.specs.Promotion.{promotion}
+use Rattle.hrt_solve.specs.declared.ends.SolveEnd.{SolveEnd}
 use Rattle.hrt_cli.specs.declared.limit.Limit.{Limit}
 use Rattle.hrt_cli.specs.declared.stop.ModelKind.{ModelKind}
 use Rattle.hrt_cli.specs.declared.stop.ModelKind.TheVariants.{Syntax, TooBig}
 use Rattle.hrt_cli.specs.Limits.{most, name_of}
-use Rattle.hrt_cli.specs.Verdicts.{Verdict, misused, rejected, refused, exceeded, pairs_refused, model_refused, proof_refused, truncated, solved, audited, modeled, verified, checked, on_verdict}
+use Rattle.hrt_cli.specs.Verdicts.{Verdict, misused, rejected, refused, exceeded, pairs_refused, model_refused, proof_refused, truncated, solved, audited, modeled, verified, checked, bounded, matched, on_verdict}
 
 abbrev pub line : List ℕ → List ℕ
 line text = text ++ 10 ∷ []
@@ -32,9 +35,6 @@ value_line word value = word ++ 32 ∷ line value
 -- a word and a number
 abbrev pub count_line : List ℕ → ℕ → List ℕ
 count_line word n = value_line word (decimal n)
-
-abbrev pub name_at : List (List ℕ) → ℕ → List ℕ
-name_at names k = unwrap_or (slice_get names k) []
 
 -- the names of a pair, to the end of the line
 abbrev pub names_line : Lists → ℕ → List ℕ
@@ -53,6 +53,36 @@ instance_lines lists =
 abbrev pub solve_report : Lists → List ℕ → List ℕ
 solve_report lists m =
     instance_lines lists ++ flat_map (pair_line lists) m ++ count_line (codes "size") (length m) ++ line (codes "best")
+
+-- the lines on what is found before a matching is looked for
+abbrev pub bound_lines : Lists → ℕ → ℕ → List ℕ
+bound_lines lists deleted top = instance_lines lists ++ count_line (codes "deleted") deleted ++ count_line (codes "ceiling") top
+
+-- the report on a bound
+abbrev pub bound_report : Lists → ℕ → ℕ → List ℕ
+bound_report lists deleted top = bound_lines lists deleted top ++ count_line (codes "at most") top
+
+-- the lines on a matching that was found without a search
+abbrev pub found_lines : Lists → List ℕ → List ℕ
+found_lines lists m =
+    count_line (codes "first") (length m) ++ count_line (codes "conflicts") 0 ++ flat_map (pair_line lists) m ++ count_line (codes "size") (length m)
+
+-- the same, as a job says it
+abbrev pub end_lines : Lists → SolveEnd → List ℕ
+end_lines lists end =
+    count_line (codes "first") end.first ++ count_line (codes "conflicts") end.conflicts ++ flat_map (pair_line lists) (numbers_of end.pairs.items)
+    ++ count_line (codes "size") end.first
+
+-- all lines of the report on it but the last
+abbrev pub match_lines : Lists → ℕ → ℕ → List ℕ → List ℕ
+match_lines lists deleted top m = bound_lines lists deleted top ++ found_lines lists m
+
+-- whether no other matching is larger, or how large one is at most
+abbrev pub last_line : ℕ → ℕ → List ℕ
+last_line size top = if size == top then line (codes "best") else count_line (codes "at most") top
+
+abbrev pub quick_report : Lists → ℕ → ℕ → List ℕ → List ℕ
+quick_report lists deleted top m = match_lines lists deleted top m ++ last_line (length m) top
 
 -- the word for a kind of refusal of pairs
 abbrev pub pairs_kind_word : ℕ → List ℕ
@@ -164,6 +194,8 @@ IsReport (audited lists pairs) text = text ≡ audit_report lists pairs (audit_o
 IsReport (modeled lists) text = text ≡ model_report lists
 IsReport (verified claim) text = text ≡ verify_report claim
 IsReport (checked claim) text = text ≡ check_report claim
+IsReport (bounded lists deleted top proof) text = text ≡ bound_report lists deleted top
+IsReport (matched lists deleted top proof) text = text ≡ quick_report lists deleted top (promotion lists)
 
 -- the text is the report on a proof with this refusal, whatever a valid proof comes to
 abbrev pub TellsOfProof : ProofRefusal → List ℕ → Type 0

@@ -1,24 +1,28 @@
 -- How a run ends, and what stands after it.
-use Rattle.std.specs.Prelude.{◌≡◌, ◌⊎◌, ◌≤◌, ◌↔◌, ℕ, ◌==◌, ◌||◌, Bool, true, false, not, IsTrue, List, length, Option, Some, None, IfSome, ℤ, pos, ◌≤ℤ◌}
+use Rattle.std.specs.Prelude.{◌≡◌, ◌⊎◌, ◌≤◌, ◌<◌, ◌↔◌, ℕ, ◌==◌, ◌||◌, Bool, true, false, not, IsTrue, List, ◌++◌, length, codes, Option, Some, None, IfSome, ℤ, pos, ◌≤ℤ◌}
 use Rattle.std.specs.List.Sorted.{IsStrictlyIncreasing}
 use Rattle.hrt_base.specs.declared.port.Port.{Port}
-use Rattle.hrt_base.specs.declared.port.Port.TheVariants.{Model, Report}
+use Rattle.hrt_base.specs.declared.port.Port.TheVariants.{Model, Proof, Report}
 use Rattle.hrt_base.specs.declared.host.Begun.TheVariants.{Idle, Writing}
 use Rattle.hrt_base.specs.Calls.{Rose}
 use Rattle.hrt_base.specs.World.{World, Content, put, appended, sealed}
 use Rattle.hrt_cli.specs.declared.status.Status.{Status}
-use Rattle.hrt_cli.specs.declared.status.Status.TheVariants.{Done, Misused, InstanceRefused, ReadFault, WriteFault, NoMemory, LimitExceeded, ProofRefused, AuditNo, PairsRefused}
+use Rattle.hrt_cli.specs.declared.status.Status.TheVariants.{Done, Misused, InstanceRefused, ReadFault, WriteFault, NoMemory, LimitExceeded, ProofRefused, AuditNo, Bounded, PairsRefused}
 use Rattle.rank_tables.specs.Instance.{Lists}
 use Rattle.rank_tables.specs.Stability.{Best, is_weakly_stable}
 use Rattle.pb_rows.specs.Formula.{Formula}
 use Rattle.proof_lines.specs.declared.line.Claim.{Claim}
 use Rattle.proof_rules.specs.Sound.{IsTrueClaim}
+use Rattle.promotion_heuristic.specs.Promotion.{promotion}
+use Rattle.hrt_solve.specs.Gauged.{AreNumbersOf, IsMost, bound_claim, found_claim}
+use Rattle.hrt_solve.specs.Writing.{IsProof}
 use Rattle.hrt_reader.specs.Refusal.{Spells}
 use Rattle.opb_text.specs.Refusal.{Spells as SpellsFormula}
 use Rattle.opb_text.specs.Spelling.{model_text}
-use Rattle.hrt_cli.specs.Answers.{CutShort, IsReadOut, LeavesFronts, SendsNothing}
+use Rattle.hrt_cli.specs.Answers.{CutShort, IsReadOut, IsTaken, LeavesFronts, SendsNothing}
 use Rattle.hrt_cli.specs.Outputs.{SendsAll, is_output_name, outputs_of}
-use Rattle.hrt_cli.specs.Reports.{IsReport, check_report, model_report, sizes_report, solve_report}
+use Rattle.hrt_cli.specs.Reports.{IsReport, bound_report, check_report, count_line, line, match_lines, model_report, sizes_report, solve_report}
+use Rattle.hrt_cli.specs.Requests as ask
 use Rattle.hrt_cli.specs.Requests.{Request}
 use Rattle.hrt_cli.specs.Statuses.{code_of}
 use Rattle.hrt_cli.specs.Verdicts.{Verdict, ComesTo, status_of}
@@ -64,6 +68,7 @@ EndsAs told request InstanceRefused old new = Reported told request InstanceRefu
 EndsAs told request LimitExceeded old new = Reported told request LimitExceeded old new
 EndsAs told request ProofRefused old new = Reported told request ProofRefused old new
 EndsAs told request AuditNo old new = Reported told request AuditNo old new
+EndsAs told request Bounded old new = Reported told request Bounded old new
 EndsAs told request PairsRefused old new = Reported told request PairsRefused old new
 
 -- ---- what a run promises, by the code that it answers
@@ -73,7 +78,7 @@ abbrev pub has_report : ℕ → Bool
 has_report n = not (n == 4 || n == 5 || n == 6)
 
 abbrev pub is_code : ℕ → Bool
-is_code n = n == 0 || n == 2 || n == 3 || n == 4 || n == 5 || n == 6 || n == 7 || n == 8 || n == 9 || n == 12
+is_code n = n == 0 || n == 2 || n == 3 || n == 4 || n == 5 || n == 6 || n == 7 || n == 8 || n == 9 || n == 10 || n == 12
 
 -- the report was sent of what the words and the files come to, and the code is that of this verdict
 pub record IsDecided (request : Option Request) (n : ℕ) (old new : World) : Type 0 where
@@ -81,15 +86,33 @@ pub record IsDecided (request : Option Request) (n : ℕ) (old new : World) : Ty
   pub code : n ≡ code_of status
   pub reported : IsReported request status old new
 
--- The code of the verdict that the words and the files come to, unless a call of the host failed or memory was wanting
-abbrev pub IsDue : Option Request → ℕ → World → Type 0
-IsDue request n old = (verdict : Verdict) → ComesTo request old.content.file verdict → has_report n ≡ true → n ≡ code_of (status_of verdict)
+-- The code and the report are those of whatever verdict the words and the files come to, unless a call of the host failed or
+-- memory was wanting.
+abbrev pub IsDue : Option Request → ℕ → World → World → Type 0
+IsDue request n old new =
+    (verdict : Verdict) → ComesTo request old.content.file verdict → has_report n ≡ true
+    → (n ≡ code_of (status_of verdict)) × IsReport verdict (new.content.sent Report)
 
 -- without a rise of the counts of faults the code is that of the verdict, or memory was wanting
 abbrev pub IsComplete : Option Request → ℕ → World → World → Type 0
 IsComplete request n old new =
     (Rose old.read_faults new.read_faults → ⊥) → (Rose old.write_faults new.write_faults → ⊥)
     → (verdict : Verdict) → ComesTo request old.content.file verdict → (n ≡ code_of (status_of verdict)) ⊎ (n ≡ 6)
+
+-- Without a rise of the counts of faults a command that writes a proof is done with an instance that is taken, or memory was
+-- wanting.
+abbrev pub Finishes : Option Request → ℕ → World → World → Type 0
+Finishes None n old new = Unit {0}
+Finishes (Some (ask.solve instance)) n old new = Unit {0}
+Finishes (Some (ask.audit instance pairs)) n old new = Unit {0}
+Finishes (Some (ask.model instance file)) n old new = Unit {0}
+Finishes (Some (ask.verify instance proof)) n old new = Unit {0}
+Finishes (Some (ask.check file proof)) n old new = Unit {0}
+Finishes (Some (ask.bound instance file proof)) n old new =
+    (Rose old.read_faults new.read_faults → ⊥) → (Rose old.write_faults new.write_faults → ⊥) → IsTaken (old.content.file instance) → (n ≡ 0) ⊎ (n ≡ 6)
+Finishes (Some (ask.quick instance file proof)) n old new =
+    (Rose old.read_faults new.read_faults → ⊥) → (Rose old.write_faults new.write_faults → ⊥) → IsTaken (old.content.file instance)
+    → (n ≡ 0) ⊎ (n ≡ 10) ⊎ (n ≡ 6)
 
 -- the report lists the pairs of a best matching of the instance that the file spells, by rising number
 pub record PrintsBest (instance : List ℕ) (old new : Content) : Type 0 where
@@ -134,6 +157,55 @@ pub record PrintsClaim (model : List ℕ) (old new : Content) : Type 0 where
   pub claim : Claim
   pub report : new.sent Report ≡ check_report claim
   pub is_true : IsTrueClaim formula claim
+
+-- the files that are named are what was sent: the model of the lists, and a valid proof of it with this claim, which says of
+-- no row that it was learned
+pub record WritesProofOf (lists : Lists) (claim : Claim) (name proof : List ℕ) (new : Content) : Type 0 where
+  pub model_sent : new.sent Model ≡ model_text lists
+  pub model_file : new.file name ≡ Some (new.sent Model)
+  pub proof_file : new.file proof ≡ Some (new.sent Proof)
+  pub is_proof : IsProof lists (new.sent Proof) claim 0
+
+-- The report tells the numbers of the instance that the file spells. No weakly stable matching has more pairs than the ceiling,
+-- and the written proof says so.
+pub record PrintsBound (instance name proof : List ℕ) (old new : Content) : Type 0 where
+  pub bytes : List ℕ
+  pub file : old.file instance ≡ Some bytes
+  pub lists : Lists
+  pub spelled : Spells bytes lists
+  pub deleted : ℕ
+  pub top : ℕ
+  pub numbers : AreNumbersOf lists deleted top
+  pub most : IsMost lists top
+  pub report : new.sent Report ≡ bound_report lists deleted top
+  pub written : WritesProofOf lists (bound_claim top) name proof new
+
+-- The report tells the numbers of the instance that the file spells and lists the promotion's pairs, which are weakly stable, and
+-- ends with this line. No weakly stable matching has more pairs than the ceiling, and the written proof says this and that one
+-- has as many as are listed.
+pub record PrintsMatching (lists : Lists) (top : ℕ) (last : List ℕ) (instance name proof : List ℕ) (old new : Content) : Type 0 where
+  pub bytes : List ℕ
+  pub file : old.file instance ≡ Some bytes
+  pub spelled : Spells bytes lists
+  pub deleted : ℕ
+  pub numbers : AreNumbersOf lists deleted top
+  pub most : IsMost lists top
+  pub stable : IsTrue (is_weakly_stable lists (promotion lists))
+  pub report : new.sent Report ≡ match_lines lists deleted top (promotion lists) ++ last
+  pub written : WritesProofOf lists (found_claim top (length (promotion lists))) name proof new
+
+-- the listed pairs are as many as the ceiling, so no weakly stable matching is larger
+pub record PrintsMet (instance name proof : List ℕ) (old new : Content) : Type 0 where
+  pub lists : Lists
+  pub printed : PrintsMatching lists (length (promotion lists)) (line (codes "best")) instance name proof old new
+  pub best : Best lists (promotion lists)
+
+-- the listed pairs are fewer than the ceiling, and the last line tells the ceiling
+pub record PrintsOpen (instance name proof : List ℕ) (old new : Content) : Type 0 where
+  pub lists : Lists
+  pub top : ℕ
+  pub printed : PrintsMatching lists top (count_line (codes "at most") top) instance name proof old new
+  pub fewer : length (promotion lists) < top
 
 -- a code after which no file has changed
 abbrev pub keeps_files : ℕ → Bool

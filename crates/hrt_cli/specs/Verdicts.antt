@@ -16,6 +16,9 @@ use Rattle.proof_lines.specs.declared.line.Claim.{Claim}
 use Rattle.proof_rules.specs.Refusals.{RefusalAt}
 use Rattle.proof_rules.specs.Texts as text
 use Rattle.proof_rules.specs.Texts.{HasVerdict}
+use Rattle.promotion_heuristic.specs.Promotion.{promotion}
+use Rattle.hrt_solve.specs.Gauged.{AreNumbersOf, bound_claim, found_claim}
+use Rattle.hrt_solve.specs.Writing.{IsProof}
 use Rattle.stability_audit.specs.declared.verdict.Verdict.{Verdict as Audit}
 use Rattle.stability_audit.specs.declared.verdict.Verdict.TheVariants.{Stable, ResidentTwice, OverCapacity, Blocked}
 use Rattle.hrt_cli.specs.declared.limit.Limit.{Limit}
@@ -23,9 +26,9 @@ use Rattle.hrt_cli.specs.declared.limit.Limit.TheVariants.{Residents, Hospitals,
 use Rattle.hrt_cli.specs.declared.stop.ModelKind.{ModelKind}
 use Rattle.hrt_cli.specs.declared.stop.ModelKind.TheVariants.{Syntax, TooBig}
 use Rattle.hrt_cli.specs.declared.status.Status.{Status}
-use Rattle.hrt_cli.specs.declared.status.Status.TheVariants.{Done, Misused, InstanceRefused, LimitExceeded, ProofRefused, AuditNo, PairsRefused}
+use Rattle.hrt_cli.specs.declared.status.Status.TheVariants.{Done, Misused, InstanceRefused, LimitExceeded, ProofRefused, AuditNo, Bounded, PairsRefused}
 use Rattle.hrt_cli.specs.Limits.{most}
-use Rattle.hrt_cli.specs.Requests.{Request, solve, audit, model, verify, check}
+use Rattle.hrt_cli.specs.Requests.{Request, solve, audit, model, verify, check, bound, quick}
 
 -- why a file isn't taken
 pub data Rejection : Type 0 where
@@ -44,6 +47,8 @@ pub data Verdict : Type 0 where
   modeled : Lists → Verdict  -- the model is due
   verified : Claim → Verdict  -- the proof of the instance's model is valid, with this claim
   checked : Claim → Verdict  -- the proof of the model is valid, with this claim
+  bounded : Lists → ℕ → ℕ → List ℕ → Verdict  -- so many pairs are deleted, this is the ceiling, and this proof of it is due
+  matched : Lists → ℕ → ℕ → List ℕ → Verdict  -- the same, and the pairs of the first matching are due
 
 -- the files by their names
 abbrev pub Files : Type 0
@@ -152,6 +157,37 @@ OnFormula done (Ok f) proof verdict = (bytes : List ℕ) × (proof ≡ Some byte
 abbrev pub OnFiles : (Claim → Verdict) → (List ℕ → Result Formula Rejection) → Option (List ℕ) → Option (List ℕ) → Verdict → Type 0
 OnFiles done read input proof verdict = (bytes : List ℕ) × (input ≡ Some bytes) × OnFormula done (read bytes) proof verdict
 
+-- ---- models with proofs
+
+-- what is due for the lists, unless the file isn't taken
+abbrev pub OnLists : (Lists → Verdict → Type 0) → Result Lists Rejection → Verdict → Type 0
+OnLists Due (Err rejection) verdict = verdict ≡ rejected rejection
+OnLists Due (Ok lists) verdict = Due lists verdict
+
+-- what a file with an instance comes to
+abbrev pub OnInstance : (Lists → Verdict → Type 0) → Option (List ℕ) → Verdict → Type 0
+OnInstance Due input verdict = (bytes : List ℕ) × (input ≡ Some bytes) × OnLists Due (of_few_terms (within Pairs (lists_in bytes))) verdict
+
+-- what is due are the instance's numbers and a proof of what is claimed with its ceiling, which says of no row that it was learned
+pub record ProofDue (claim : ℕ → Claim) (done : ℕ → ℕ → List ℕ → Verdict) (lists : Lists) (verdict : Verdict) : Type 0 where
+  pub deleted : ℕ
+  pub top : ℕ
+  pub text : List ℕ
+  pub numbers : AreNumbersOf lists deleted top
+  pub is_proof : IsProof lists text (claim top) 0
+  pub is : verdict ≡ done deleted top text
+
+-- that no weakly stable matching is larger than the ceiling
+abbrev pub BoundDue : Lists → Verdict → Type 0
+BoundDue lists verdict = ProofDue bound_claim (bounded lists) lists verdict
+
+-- and that one is as large as the first matching
+abbrev pub first_claim : Lists → ℕ → Claim
+first_claim lists top = found_claim top (length (promotion lists))
+
+abbrev pub MatchDue : Lists → Verdict → Type 0
+MatchDue lists verdict = ProofDue (first_claim lists) (matched lists) lists verdict
+
 -- ---- all of them
 
 -- what the words and the files come to: nothing where a file that is read is absent
@@ -162,6 +198,8 @@ ComesTo (Some (audit instance pairs)) files verdict = on_file (files instance) (
 ComesTo (Some (model instance file)) files verdict = option_map model_verdict (files instance) ≡ Some verdict
 ComesTo (Some (verify instance proof)) files verdict = OnFiles verified formula_of_instance (files instance) (files proof) verdict
 ComesTo (Some (check file proof)) files verdict = OnFiles checked formula_in (files file) (files proof) verdict
+ComesTo (Some (bound instance file proof)) files verdict = OnInstance BoundDue (files instance) verdict
+ComesTo (Some (quick instance file proof)) files verdict = OnInstance MatchDue (files instance) verdict
 
 abbrev pub status_of : Verdict → Status
 status_of (solved lists) = Done
@@ -169,6 +207,8 @@ status_of (audited lists pairs) = if is_weakly_stable lists pairs then Done else
 status_of (modeled lists) = Done
 status_of (verified claim) = Done
 status_of (checked claim) = Done
+status_of (bounded lists deleted top text) = Done
+status_of (matched lists deleted top text) = if length (promotion lists) == top then Done else Bounded
 status_of misused = Misused
 status_of (rejected (refused r)) = InstanceRefused
 status_of (rejected (exceeded limit)) = LimitExceeded

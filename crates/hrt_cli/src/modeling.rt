@@ -1,12 +1,13 @@
 // The command that writes the model.
-ghost use Rattle.std.specs.Prelude.{◌≡◌, Some, IfOk, IfErr, OnOk, OnErr, IsErrOf};
+ghost use Rattle.std.specs.Prelude.{◌≡◌, [], ◌∷◌, Some, IfOk, IfErr, OnOk, OnErr, IsErrOf};
 ghost use Rattle.hrt_base.specs.Calls.{AtStart, Rose};
 ghost use Rattle.opb_text.specs.Spelling.{model_text};
 ghost use Rattle.hrt_cli.specs.Answers.{EndsEarly, IsAnswer, IsWorked};
 ghost use Rattle.hrt_cli.specs.Reports.{model_report};
 ghost use Rattle.hrt_cli.specs.Requests.{model};
 ghost use Rattle.hrt_cli.specs.Verdicts.{modeled};
-ghost use Rattle.hrt_cli.specs.Saving.{EndsSaving, IsSaved, IsSavedInPart};
+ghost use Rattle.hrt_cli.specs.Outputs.{output};
+ghost use Rattle.hrt_cli.specs.Writing.{EndsWriting, WritesAll, WritesInPart};
 
 use crate::loading::load;
 use crate::{Answer, Ended, Limit, Report, Status, explain};
@@ -34,7 +35,7 @@ pub fn model<H: Host>(
 }
 
 // Writes the model of the instance.
-#[tactic(auto, using(crate::proofs::WrittenModels::not_begun))]
+#[tactic(auto, using(crate::proofs::BegunOutputs::nothing_done))]
 fn modeled<H: Host>(
     alloc: Global,
     host: &mut H,
@@ -42,9 +43,9 @@ fn modeled<H: Host>(
     inst: &Instance,
 ) -> Result<Answer, Ended>
     requires { (H.world host.old).begun Port.Model ≡ Begun.Idle }
-    ensures saved { OnOk result (IsSaved H.told Port.Model file.now (model_text inst.now) (H.world host.old) (H.world host.new)) }
+    ensures saved { OnOk result (WritesAll H.told (output Port.Model file.now (model_text inst.now) ∷ []) (H.world host.old) (H.world host.new)) }
     ensures answered { IfOk result (λ answer. IsAnswer (modeled inst.now) answer) }
-    ensures ended { IfErr result (λ ended. EndsSaving H.told Port.Model file.now (model_text inst.now) ended (H.world host.old) (H.world host.new)) }
+    ensures ended { IfErr result (λ ended. EndsWriting H.told (output Port.Model file.now (model_text inst.now) ∷ []) ended (H.world host.old) (H.world host.new)) }
 {
     let model = Model::of(alloc, inst)?;
     let report = model_report(alloc, &model)?;
@@ -68,7 +69,7 @@ fn model_report(alloc: Global, model: &Model) -> Result<Report, NoMemory>
 }
 
 // Writes the model under the name and seals it.
-#[tactic(auto, using(crate::proofs::WrittenModels::seal_failed))]
+#[tactic(auto, using(crate::proofs::BegunOutputs::none_begun, crate::proofs::BegunOutputs::model_saved))]
 fn save_model<H: Host>(
     alloc: Global,
     host: &mut H,
@@ -76,8 +77,8 @@ fn save_model<H: Host>(
     model: &Model,
 ) -> Result<(), WriteEnd>
     requires { (H.world host.old).begun Port.Model ≡ Begun.Idle }
-    ensures saved { OnOk result (IsSaved H.told Port.Model file.now (model_text model.now) (H.world host.old) (H.world host.new)) }
-    ensures part { OnErr result (IsSavedInPart H.told Port.Model file.now (model_text model.now) (H.world host.old) (H.world host.new)) }
+    ensures saved { OnOk result (WritesAll H.told (output Port.Model file.now (model_text model.now) ∷ []) (H.world host.old) (H.world host.new)) }
+    ensures part { OnErr result (WritesInPart H.told (output Port.Model file.now (model_text model.now) ∷ []) (H.world host.old) (H.world host.new)) }
     ensures failed { IsErrOf result WriteEnd.Failed → Rose (H.world host.old).write_faults (H.world host.new).write_faults }
 {
     host.begin_write(Port::Model, file)?;

@@ -3,12 +3,13 @@ ghost use Rattle.std.specs.Prelude.{◌≡◌, ◌⊎◌, ℕ, List, true, IfOk,
 ghost use Rattle.hrt_base.specs.declared.port.Port.{Port};
 ghost use Rattle.hrt_base.specs.Calls.{AtStart, Rose, SentPart};
 ghost use Rattle.hrt_cli.specs.Answers.{EndsEarly, IsCutShort, IsWorked, LeavesFronts, SendsNothing};
-ghost use Rattle.hrt_cli.specs.Requests.{asked_by, check, model, request_of, solve, texts_of, verify};
-ghost use Rattle.hrt_cli.specs.Runs.{EndsAs, IsComplete, IsDecided, IsDue, IsSentWhole, KeepsFiles, KeepsOthers, PrintsBest, PrintsClaim, PrintsSizes, WritesModel, has_report, is_code, keeps_files};
+ghost use Rattle.hrt_cli.specs.Requests.{asked_by, bound, check, model, quick, request_of, solve, texts_of, verify};
+ghost use Rattle.hrt_cli.specs.Runs.{EndsAs, Finishes, IsComplete, IsDecided, IsDue, IsSentWhole, KeepsFiles, KeepsOthers, PrintsBest, PrintsBound, PrintsClaim, PrintsMet, PrintsOpen, PrintsSizes, WritesModel, has_report, is_code, keeps_files};
 
 use crate::auditing::audit;
 use crate::checking::check;
 use crate::modeling::model;
+use crate::proving::{bound, quick};
 use crate::solve::solve;
 use crate::verifying::verify;
 use crate::{Answer, Command, Ended, Status, command_of};
@@ -17,19 +18,23 @@ use std::alloc::Global;
 
 /// Does what the words ask for, and answers the code with which the program exits: 0 done, 2 words not understood,
 /// 3 instance refused, 4 a read failed, 5 a write failed, 6 out of memory, 7 a limit passed, 8 model or proof refused, 9 not
-/// weakly stable, 12 pairs refused.
-#[tactic(auto, using(crate::proofs::Codes::best, crate::proofs::Codes::misused_code, crate::proofs::Codes::understood_code, crate::proofs::Codes::due, crate::proofs::Codes::complete, crate::proofs::Codes::read_fault, crate::proofs::Codes::after_read_fault, crate::proofs::Codes::write_fault, crate::proofs::Codes::after_write_fault, crate::proofs::Codes::after_no_memory, crate::proofs::Codes::closed, crate::proofs::Codes::files_kept, crate::proofs::Codes::others_kept, crate::proofs::WrittenModels::model_written, crate::proofs::Codes::known))]
+/// weakly stable, 10 shorter than the ceiling, 12 pairs refused.
+#[tactic(auto, using(crate::proofs::Codes::best, crate::proofs::Codes::misused_code, crate::proofs::Codes::understood_code, crate::proofs::Codes::complete, crate::proofs::Codes::read_fault, crate::proofs::Codes::after_read_fault, crate::proofs::Codes::write_fault, crate::proofs::Codes::after_write_fault, crate::proofs::Codes::after_no_memory, crate::proofs::Codes::closed, crate::proofs::Codes::files_kept, crate::proofs::Codes::others_kept, crate::proofs::WrittenModels::model_written, crate::proofs::Codes::known))]
 pub fn run<H: Host>(alloc: Global, words: &[String], host: &mut H) -> u8
     requires { AtStart H.told (H.world host.old) }
     ensures best { H.told → result ≡ 0 → (instance : List ℕ) → request_of (texts_of words.now) ≡ Some (solve instance) → PrintsBest instance (H.world host.old).content (H.world host.new).content }
     ensures model { H.told → result ≡ 0 → (instance file : List ℕ) → request_of (texts_of words.now) ≡ Some (model instance file) → WritesModel instance file (H.world host.old).content (H.world host.new).content }
     ensures sizes { H.told → result ≡ 0 → (instance proof : List ℕ) → request_of (texts_of words.now) ≡ Some (verify instance proof) → PrintsSizes instance (H.world host.old).content (H.world host.new).content }
     ensures claim { H.told → result ≡ 0 → (model proof : List ℕ) → request_of (texts_of words.now) ≡ Some (check model proof) → PrintsClaim model (H.world host.old).content (H.world host.new).content }
+    ensures bound { H.told → result ≡ 0 → (instance model proof : List ℕ) → request_of (texts_of words.now) ≡ Some (bound instance model proof) → PrintsBound instance model proof (H.world host.old).content (H.world host.new).content }
+    ensures met { H.told → result ≡ 0 → (instance model proof : List ℕ) → request_of (texts_of words.now) ≡ Some (quick instance model proof) → PrintsMet instance model proof (H.world host.old).content (H.world host.new).content }
+    ensures bounded { H.told → result ≡ 10 → (instance model proof : List ℕ) → request_of (texts_of words.now) ≡ Some (quick instance model proof) → PrintsOpen instance model proof (H.world host.old).content (H.world host.new).content }
     ensures misused { result ≡ 2 → request_of (texts_of words.now) ≡ None }
     ensures understood { request_of (texts_of words.now) ≡ None → (result ≡ 2) ⊎ (result ≡ 5) }
     ensures decided { H.told → has_report result ≡ true → IsDecided (request_of (texts_of words.now)) result (H.world host.old) (H.world host.new) }
-    ensures due { H.told → IsDue (request_of (texts_of words.now)) result (H.world host.old) }
+    ensures due { H.told → IsDue (request_of (texts_of words.now)) result (H.world host.old) (H.world host.new) }
     ensures complete { H.told → IsComplete (request_of (texts_of words.now)) result (H.world host.old) (H.world host.new) }
+    ensures finishes { H.told → Finishes (request_of (texts_of words.now)) result (H.world host.old) (H.world host.new) }
     ensures read_fault { result ≡ 4 → Rose (H.world host.old).read_faults (H.world host.new).read_faults }
     ensures after_read_fault { H.told → result ≡ 4 → SendsNothing (H.world host.old).content (H.world host.new).content }
     ensures write_fault { result ≡ 5 → Rose (H.world host.old).write_faults (H.world host.new).write_faults }
@@ -77,6 +82,8 @@ fn answer_to<H: Host>(alloc: Global, host: &mut H, command: Command) -> Result<A
         Command::Model(instance, file) => model(alloc, host, instance, file),
         Command::Verify(instance, proof) => verify(alloc, host, instance, proof),
         Command::Check(model, proof) => check(alloc, host, model, proof),
+        Command::Bound(instance, model, proof) => bound(alloc, host, instance, model, proof),
+        Command::Quick(instance, model, proof) => quick(alloc, host, instance, model, proof),
     }
 }
 

@@ -1,17 +1,15 @@
 // The command that finds a largest weakly stable matching.
-ghost use Rattle.std.specs.Prelude.{◌≡◌, ◌≤◌, Some, IfOk, IfErr, length, All, OnOk, ◌++◌, flat_map};
+ghost use Rattle.std.specs.Prelude.{◌≡◌, ◌≤◌, Some, IfOk, IfErr};
 ghost use Rattle.hrt_base.specs.Calls.{AtStart};
 ghost use Rattle.rank_tables.specs.Instance.{pair_count};
-ghost use Rattle.rank_tables.specs.Tables.{numbers_of, IsPairNo};
-ghost use Rattle.rank_tables.specs.WellFormed.{most_pairs};
 ghost use Rattle.hrt_cli.specs.Answers.{GivesUp, IsAnswer, IsAnswered};
-ghost use Rattle.hrt_cli.specs.Reports.{pair_line, solve_report};
 ghost use Rattle.hrt_cli.specs.Requests.{solve};
 ghost use Rattle.hrt_cli.specs.Verdicts.{solved};
 
 use crate::loading::load;
-use crate::{Answer, Ended, Limit, Report, Status, explain};
-use hrt_base::{Host, NoMemory, PairNo};
+use crate::matches::solve_report;
+use crate::{Answer, Ended, Limit, Status, explain};
+use hrt_base::Host;
 use plain_enumeration::largest_stable;
 use rank_tables::Instance;
 use std::alloc::Global;
@@ -40,27 +38,4 @@ fn solved(alloc: Global, inst: &Instance) -> Result<Answer, Ended>
         status: Status::Done,
         report: solve_report(alloc, inst, &pairs)?,
     })
-}
-
-fn solve_report(alloc: Global, inst: &Instance, pairs: &[PairNo]) -> Result<Report, NoMemory>
-    requires few { length pairs.now ≤ most_pairs }
-    requires numbers { All (λ p. IsPairNo inst.now p.0) pairs.now }
-    ensures { IfOk result (λ report. report ≡ solve_report inst.now (numbers_of pairs.now)) }
-{
-    let mut report = Report::new(alloc);
-    report.push_instance(inst)?;
-    push_pairs(&mut report, inst, pairs)?;
-    report.push_count("size", pairs.len() as u32)?;
-    report.push_line("best")?;
-    Ok(report)
-}
-
-fn push_pairs(report: &mut Report, inst: &Instance, pairs: &[PairNo]) -> Result<(), NoMemory>
-    requires { All (λ p. IsPairNo inst.now p.0) pairs.now }
-    ensures { OnOk result (report.new ≡ report.old ++ flat_map (pair_line inst.now) (numbers_of pairs.now)) }
-{
-    for pair in pairs {
-        report.push_pair(inst, *pair)?;
-    }
-    Ok(())
 }

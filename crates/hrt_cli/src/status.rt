@@ -15,6 +15,8 @@ pub enum Status {
     /// The proof, or the model that it is a proof of.
     ProofRefused,
     AuditNo,
+    /// The matching is shorter than the ceiling.
+    Bounded,
     PairsRefused,
 }
 
@@ -33,6 +35,7 @@ impl Status {
             Status::LimitExceeded => 7,
             Status::ProofRefused => 8,
             Status::AuditNo => 9,
+            Status::Bounded => 10,
             Status::PairsRefused => 12,
         }
     }

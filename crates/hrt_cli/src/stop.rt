@@ -3,9 +3,10 @@ ghost use Rattle.std.specs.Prelude.{◌≡◌};
 ghost use Rattle.hrt_cli.specs.declared.stop.Stop.TheVariants.{NoMemory as stop_no_memory, ReadFault as stop_read_fault};
 ghost use Rattle.hrt_cli.specs.declared.stop.Ended.TheVariants.{NoMemory as ended_no_memory};
 ghost use Rattle.hrt_cli.specs.Proofs.{check_stop, model_stop};
+ghost use Rattle.hrt_cli.specs.Writing.{ended_by};
 
 use crate::Limit;
-use hrt_base::{Failed, NoMemory};
+use hrt_base::{Failed, NoMemory, WriteEnd};
 use hrt_reader::{PairsKind, ReadKind};
 use hrt_solve::CheckRefusal;
 use opb_text::OpbRefusal;
@@ -92,5 +93,16 @@ impl From<NoMemory> for Ended {
 
     fn from(_: NoMemory) -> Self {
         Ended::NoMemory
+    }
+}
+
+impl From<WriteEnd> for Ended {
+    ghost from_gives = { λ end e. e ≡ ended_by end };
+
+    fn from(end: WriteEnd) -> Self {
+        match end {
+            WriteEnd::Failed => Ended::WriteFault,
+            WriteEnd::NoMemory => Ended::NoMemory,
+        }
     }
 }

@@ -1,6 +1,6 @@
 // The words after the program's name.
 ghost use Rattle.std.specs.Prelude.{◌≡◌, option_map, map, string_bytes};
-ghost use Rattle.hrt_cli.specs.Requests.{asked_by, is_file_name, request_of, one_file, texts_of, two, two_files};
+ghost use Rattle.hrt_cli.specs.Requests.{asked_by, is_file_name, request_of, one_file, texts_of, three, three_files, two, two_files};
 
 /// What is to be done, with the names of its files.
 #[derive(Clone, Copy)]
@@ -15,6 +15,10 @@ pub enum Command<'a> {
     Verify(&'a str, &'a str),
     /// The model and the proof.
     Check(&'a str, &'a str),
+    /// The instance, and the files of its model and of a proof of its bound.
+    Bound(&'a str, &'a str, &'a str),
+    /// The instance, and the files of its model and of a proof of its bound and of a matching.
+    Quick(&'a str, &'a str, &'a str),
 }
 
 /// The command that the words spell, if they spell one.
@@ -41,6 +45,14 @@ pub fn command_of<'a>(words: &'a [String]) -> Option<Command<'a>>
         "check" => {
             let (model, proof) = two_files(files)?;
             Some(Command::Check(model, proof))
+        }
+        "bound" => {
+            let (instance, model, proof) = three_files(files)?;
+            Some(Command::Bound(instance, model, proof))
+        }
+        "quick" => {
+            let (instance, model, proof) = three_files(files)?;
+            Some(Command::Quick(instance, model, proof))
         }
         _ => None,
     }
@@ -71,6 +83,24 @@ fn two_files<'a>(files: &'a [String]) -> Option<(&'a str, &'a str)>
             if is_file_name(first.as_str())
                 && is_file_name(second.as_str())
                 && first.as_str() != second.as_str() => { Some((first.as_str(), second.as_str())) }
+        _ => None,
+    }
+}
+
+// Three names of which each two differ.
+fn three_files<'a>(files: &'a [String]) -> Option<(&'a str, &'a str, &'a str)>
+    ensures { option_map (λ f. three f.0.now f.1.now f.2.now) result ≡ three_files (texts_of files.now) }
+{
+    match files {
+        [first, second, third]
+            if is_file_name(first.as_str())
+                && is_file_name(second.as_str())
+                && is_file_name(third.as_str())
+                && first.as_str() != second.as_str()
+                && first.as_str() != third.as_str()
+                && second.as_str() != third.as_str() => {
+            Some((first.as_str(), second.as_str(), third.as_str()))
+        }
         _ => None,
     }
 }

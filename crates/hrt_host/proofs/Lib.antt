@@ -8,3 +8,4 @@ pub mod Rooming
 pub mod Sealing
 pub mod Slots
 pub mod Standing
+mod WorkedPlans

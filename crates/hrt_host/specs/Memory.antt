@@ -12,6 +12,7 @@ use Rattle.hrt_host.specs.declared.file.File.{File}
 use Rattle.hrt_host.specs.declared.seat.Seat.{Seat}
 use Rattle.hrt_host.specs.declared.memory.MemoryHost.{MemoryHost}
 
+-- the names and the bytes, by the files and the seats
 abbrev pub memory_content : List File → List Seat → Content
 memory_content files seats = record {
   name = λ p. at_place (name_by files) [] seats (port_no p);
@@ -20,9 +21,11 @@ memory_content files seats = record {
   file = file_of files;
 }
 
+-- how a port stands, by the seats
 abbrev pub memory_begun : List Seat → Port → Begun
 memory_begun seats p = at_place (λ s. begun_of s.stand) Idle seats (port_no p)
 
+-- what a host of these counts, files and seats is to the program
 abbrev pub world_of : ℕ → ℕ → List File → List Seat → World
 world_of read_faults write_faults files seats = record {
   read_faults = read_faults;
@@ -31,12 +34,15 @@ world_of read_faults write_faults files seats = record {
   content = memory_content files seats;
 }
 
+-- what the host is to the program
 unfoldable pub memory_world : MemoryHost → World
 memory_world m = world_of m.read_faults m.write_faults m.files.items m.seats
 
+-- the room that is left to a port, by the seats
 abbrev pub memory_left : List Seat → Port → ℕ
 memory_left seats p = at_place left_of 0 seats (port_no p)
 
+-- what a host of these fields was told to do
 abbrev pub plan_of : ℕ → List ℕ → ℕ → List Room → List Seat → Plan
 plan_of calls failing most rooms seats = record {
   calls = calls;
@@ -46,6 +52,7 @@ plan_of calls failing most rooms seats = record {
   left = memory_left seats;
 }
 
+-- what the host was told to do
 unfoldable pub memory_plan : MemoryHost → Plan
 memory_plan m = plan_of m.calls m.failing.items m.most m.rooms.items m.seats
 

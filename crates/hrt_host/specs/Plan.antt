@@ -10,6 +10,7 @@ pub record RoomFor : Type 0 where
   pub name : List ℕ
   pub bytes : ℕ
 
+-- the calls so far, those that fail, and the room that is given and left
 pub record Plan : Type 0 where
   -- how many calls there were
   pub calls : ℕ
@@ -38,6 +39,7 @@ fails_next p = list_any (λ k. k == one_more p.calls) p.failing
 abbrev pub faults_after : Bool → ℕ → ℕ
 faults_after failed n = if failed then one_more n else n
 
+-- whether a room is for this port and this name
 abbrev pub is_for : Port → List ℕ → RoomFor → Bool
 is_for port name r = (port_no r.port == port_no port) && bytes_eq r.name name
 

@@ -13,12 +13,14 @@ at_place f d [] i = d
 at_place f d (x ∷ xs) zero = f x
 at_place f d (x ∷ xs) (suc i) = at_place f d xs i
 
+-- the bytes, and the name, of the file at a place
 abbrev pub bytes_at : List File → ℕ → List ℕ
 bytes_at files k = at_place (λ f. f.bytes.items) [] files k
 
 abbrev pub name_at : List File → ℕ → List ℕ
 name_at files k = at_place (λ f. f.name.items) [] files k
 
+-- the first, if there is one, or else the other
 abbrev pub or_else : Option (List ℕ) → Option (List ℕ) → Option (List ℕ)
 or_else (Some x) o = Some x
 or_else None o = o
@@ -32,16 +34,19 @@ abbrev pub file_of : List File → List ℕ → Option (List ℕ)
 file_of [] n = None
 file_of (f ∷ fs) n = or_else (file_of fs n) (answer f n)
 
+-- how a port stands
 abbrev pub begun_of : Stand → Begun
 begun_of at_rest = Idle
 begun_of (reads file taken) = Reading
 begun_of writes = Writing
 
+-- whether a port is begun for writing
 abbrev pub is_writing : Begun → Bool
 is_writing Idle = false
 is_writing Reading = false
 is_writing Writing = true
 
+-- what is left to read
 abbrev pub rest_of : List File → Stand → List ℕ
 rest_of files at_rest = []
 rest_of files (reads file taken) = drop taken (bytes_at files file)
@@ -52,6 +57,7 @@ abbrev pub kept : (List File → ℕ → List ℕ) → List File → List ℕ �
 kept at files here None = here
 kept at files here (Some k) = at files k
 
+-- what was written at a seat, and the name under which it was
 abbrev pub sent_by : List File → Seat → List ℕ
 sent_by files s = kept bytes_at files s.file.bytes.items s.sealed_at
 
@@ -85,11 +91,12 @@ writes_here sealed_at writes = is_none sealed_at
 abbrev pub seat_below : ℕ → Seat → Bool
 seat_below n s = named_below n s.sealed_at && (reads_below n s.stand && writes_here s.sealed_at s.stand)
 
+-- the same of all seats
 abbrev pub all_below : ℕ → List Seat → Bool
 all_below n [] = true
 all_below n (s ∷ ss) = seat_below n s && all_below n ss
 
--- how many of the seats are written under a name
+-- 1 where a seat is written under a name, and else 0
 abbrev pub writer_at : Stand → List ℕ → ℕ
 writer_at at_rest name = 0
 writer_at (reads file taken) name = 0
@@ -98,6 +105,7 @@ writer_at writes name = if length name == 0 then 0 else 1
 abbrev pub writer_of : Seat → ℕ
 writer_of s = writer_at s.stand s.file.name.items
 
+-- how many of the seats are written under a name
 abbrev pub writers : List Seat → ℕ
 writers [] = 0
 writers (s ∷ ss) = writer_of s + writers ss

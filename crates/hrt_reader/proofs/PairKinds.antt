@@ -1,7 +1,6 @@
 -- The kinds of a line of a text of pairs, and the least line that has one.
 use Rattle.std.proofs.Common.{◌≡◌, ℕ, suc, ◌+◌, ◌<◌, Bool, true, false, not, ◌&&◌, ◌||◌, cond, eqb, All, List, [], ◌∷◌, ◌++◌, length, take, drop, Option, Some, None, refl, sym, ap, subst, ◌∙◌, arith}
 use Rattle.std.specs.Prelude.{IfNone}
-use Rattle.std.specs.List.{list_any}
 use Rattle.std.proofs.lemmas.Bool.{and_parts, and_from, or_from, or_parts, not_from_false}
 use Rattle.std.proofs.lemmas.Bool.Decides.{Decides-eqb, same_from_decides}
 use Rattle.std.proofs.lemmas.List.{map-append}
@@ -71,10 +70,6 @@ pairs_more lists all i row after e =
 
 pub eqb-turned : (x y : ℕ) → eqb x y ≡ eqb y x
 eqb-turned x y = same_from_decides (eqb x y) (eqb y x) ((λ (e : eqb x y ≡ true). sym ((Decides-eqb x y).0 e)), (λ (e : y ≡ x). (Decides-eqb x y).1 (sym e))) (Decides-eqb y x)
-
-pub is_in-turned : (x : ℕ) (ys : List ℕ) → list_any (λ y. eqb x y) ys ≡ is_in x ys
-is_in-turned x [] = refl
-is_in-turned x (y ∷ ys) = rw (eqb-turned x y, is_in-turned x ys) refl
 
 pub distinct_more : (xs : List ℕ) (p : ℕ) → is_distinct xs ≡ true → is_in p xs ≡ false → is_distinct (xs ++ p ∷ []) ≡ true
 distinct_more [] p h new = refl

@@ -72,10 +72,6 @@ none_stands n before row after more headed unfinished h =
     (cond_same (eqb n 10) _ _ false (and_left (is_headed before && is_finished before) (not (is_blank row)) (and_right (is_headed before) (is_finished before) unfinished))
     (and_right (is_open before && not (is_blank row)) _ h)))
 
--- the kinds that a good line may have
-pub record NoKind (before : List Row) (all : List Row) (form : Form) : Type 0 where
-  pub none : (n : ℕ) → stands_by_form n before form all ≡ false
-
 -- ---- declarations of spelled lines
 
 abbrev resident_line : List (List ℕ) → DraftResident → ResidentLine
@@ -87,14 +83,6 @@ hospital_line names h = record { name = h.name; capacity = decimal h.capacity; i
 residents_of-residents : (names : List (List ℕ)) (rs : List DraftResident) → residents_of (map (resident_row names) rs) ≡ map (resident_line names) rs
 residents_of-residents names [] = refl
 residents_of-residents names (r ∷ rs) = ap (λ (l : List ResidentLine). resident_line names r ∷ l) (residents_of-residents names rs)
-
-hospitals_of-residents : (names : List (List ℕ)) (rs : List DraftResident) → hospitals_of (map (resident_row names) rs) ≡ []
-hospitals_of-residents names [] = refl
-hospitals_of-residents names (r ∷ rs) = hospitals_of-residents names rs
-
-residents_of-hospitals : (names : List (List ℕ)) (hs : List DraftHospital) → residents_of (map (hospital_row names) hs) ≡ []
-residents_of-hospitals names [] = refl
-residents_of-hospitals names (h ∷ hs) = residents_of-hospitals names hs
 
 hospitals_of-hospitals : (names : List (List ℕ)) (hs : List DraftHospital) → hospitals_of (map (hospital_row names) hs) ≡ map (hospital_line names) hs
 hospitals_of-hospitals names [] = refl

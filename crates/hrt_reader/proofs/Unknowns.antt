@@ -35,9 +35,6 @@ all_known all h known =
     ap (λ (o : Option Refusal). or_else o (first_line (unknown_in all) 1 (length all))) h
     ∙ no_line_at_all (unknown_in all) 1 (length all) (λ (k : ℕ) (b : k < length all). none_in all k (known k b))
 
-pub refused_first : (all : List Row) (r : Refusal) → refusal_but_6 all ≡ Some r → refusal all ≡ Some r
-refused_first all r h = ap (λ (o : Option Refusal). or_else o (first_line (unknown_in all) 1 (length all))) h
-
 -- ---- few names
 
 length-cons : {Y : Type 0} (o : Option Y) (ys : List Y) → length (cons_option o ys) ≤ length ys + 1

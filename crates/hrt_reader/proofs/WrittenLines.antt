@@ -20,11 +20,6 @@ spaced_join : (names : List (List ℕ)) (x : ℕ) (xs : List ℕ) → join_with_
 spaced_join names x [] = sym (append-nil (name_at names x))
 spaced_join names x (y ∷ ys) = ap (λ (l : List ℕ). name_at names x ++ 32 ∷ l) (spaced_join names y ys)
 
-pub group_one : (names : List (List ℕ)) (group : List ℕ) → length group ≡ 1 → flat_map (spaced names) group ≡ group_text names group
-group_one names [] one = absurd (omega arith)
-group_one names (x ∷ []) one = append-nil (spaced names x)
-group_one names (x ∷ y ∷ group) one = absurd (omega arith)
-
 pub group_tied : (names : List (List ℕ)) (x : ℕ) (others : List ℕ) → 0 < length others
     → codes " (" ++ (name_at names x ++ (flat_map (spaced names) others ++ codes ")")) ≡ group_text names (x ∷ others)
 group_tied names x [] some = absurd (omega arith)

@@ -5,6 +5,7 @@ use Rattle.hrt_reader.specs.declared.refusals.ReadKind.TheVariants as kind
 use Rattle.hrt_reader.specs.declared.refusals.Flaw.{Flaw}
 use Rattle.hrt_reader.specs.declared.refusals.Flaw.TheVariants as flaw
 
+-- the number of a kind
 abbrev pub number : ReadKind → ℕ
 number kind.BadHeader = 1
 number kind.BadLine = 2
@@ -17,6 +18,7 @@ number kind.BadTie = 8
 number kind.NoEnd = 9
 number kind.AfterEnd = 10
 
+-- the number of a flaw: that of its kind, 11 of a resident too many, 12 of a hospital too many
 abbrev pub flaw_number : Flaw → ℕ
 flaw_number (flaw.Bad kind) = number kind
 flaw_number flaw.TooManyResidents = 11

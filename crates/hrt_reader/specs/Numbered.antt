@@ -7,11 +7,13 @@ use Rattle.hrt_reader.specs.Refusal.{number_in}
 use Rattle.hrt_text.specs.declared.items.Place.{Place}
 use Rattle.hrt_text.specs.declared.items.Place.TheVariants.{Outside, Opened, Inside}
 
+-- where groups stand after a word
 abbrev pub place_after_word : Place → Place
 place_after_word Outside = Outside
 place_after_word Opened = Inside
 place_after_word Inside = Inside
 
+-- where groups stand after a token
 abbrev pub next_place : Place → Token → Place
 next_place place colon = place
 next_place place opening = Opened

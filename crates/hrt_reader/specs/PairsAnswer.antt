@@ -11,6 +11,7 @@ use Rattle.hrt_reader.specs.declared.pair_refusals.PairsRefusal.TheVariants.{Bad
 use Rattle.hrt_reader.specs.declared.pair_forms.PairForm.{PairForm as CodeForm}
 use Rattle.hrt_reader.specs.declared.pair_forms.PairForm.TheVariants as form
 
+-- the number of a kind
 abbrev pub pairs_number : PairsKind → ℕ
 pairs_number kind.BadLine = 1
 pairs_number kind.UnknownName = 2
@@ -22,6 +23,7 @@ abbrev pub ArePairsRefusedBy : Option Refusal → PairsRefusal → Type 0
 ArePairsRefusedBy refusal (Bad kind line) = refusal ≡ Some (record { line = line; kind = pairs_number kind })
 ArePairsRefusedBy refusal NoMemory = Unit {0}
 
+-- the code's form of a line as the grammar's
 abbrev pub view_pair_form : CodeForm → PairForm
 view_pair_form form.Blank = blank
 view_pair_form (form.Pair resident hospital) = pair resident.now hospital.now

@@ -12,6 +12,7 @@ use Rattle.hrt_reader.specs.Spelling.{name_at}
 
 -- ---- lines
 
+-- the form of a line: blank, a pair of two names, or neither
 pub data PairForm : Type 0 where
   blank : PairForm
   pair : List ℕ → List ℕ → PairForm
@@ -32,6 +33,7 @@ pair_form _ = other
 abbrev pub pair_named : Lists → List ℕ → List ℕ → Option ℕ
 pair_named lists resident hospital = pair_no lists (number_in (names_of_residents lists) resident) (number_in (names_of_hospitals lists) hospital)
 
+-- the number of the pair that a line of this form names, if it is acceptable
 abbrev pub pair_by : Lists → PairForm → Option ℕ
 pair_by lists (pair resident hospital) = pair_named lists resident hospital
 pair_by lists blank = None
@@ -43,25 +45,30 @@ pairs_of_rows lists rows = filter_map (λ row. pair_by lists (pair_form row)) ro
 
 -- ---- kinds
 
+-- 1: the line is not of the form
 abbrev pub no_pair_line : PairForm → Bool
 no_pair_line other = true
 no_pair_line blank = false
 no_pair_line (pair resident hospital) = false
 
+-- 2: a word is no declared name
 abbrev pub unknown_in_pair : Lists → PairForm → Bool
 unknown_in_pair lists (pair resident hospital) = not (is_among resident (names_of_residents lists) && is_among hospital (names_of_hospitals lists))
 unknown_in_pair lists blank = false
 unknown_in_pair lists other = false
 
+-- 3: the two names are no acceptable pair
 abbrev pub not_acceptable : Lists → PairForm → Bool
 not_acceptable lists (pair resident hospital) = is_none (pair_named lists resident hospital)
 not_acceptable lists blank = false
 not_acceptable lists other = false
 
+-- there is a number, and it is one of these
 abbrev pub is_one_of : Option ℕ → List ℕ → Bool
 is_one_of (Some p) ps = is_in p ps
 is_one_of None ps = false
 
+-- 4: an earlier line has the pair
 abbrev pub repeated : Lists → List Row → PairForm → Bool
 repeated lists before form = is_one_of (pair_by lists form) (pairs_of_rows lists before)
 
@@ -96,6 +103,7 @@ pub record SpellsPairs (lists : Lists) (bytes : List ℕ) (pairs : List ℕ) : T
 
 -- ---- the canonical spelling
 
+-- the line of a pair, without its line feed
 abbrev pub pair_text : Lists → ℕ → List ℕ
 pair_text lists p =
     codes "pair " ++ (name_at (names_of_residents lists) (pair_at lists p).resident ++ 32 ∷ name_at (names_of_hospitals lists) (pair_at lists p).hospital)

@@ -15,6 +15,7 @@ use Rattle.hrt_text.specs.Grammar.{is_capacity, value_from, words, groups_of, Fo
 
 -- what a list of lines declares
 
+-- what a line says of a resident, and of a hospital
 pub record ResidentLine : Type 0 where
   pub name : List ℕ
   pub items : List Token
@@ -24,6 +25,7 @@ pub record HospitalLine : Type 0 where
   pub capacity : List ℕ
   pub items : List Token
 
+-- the resident, and the hospital, that a line of this form declares, if it does
 abbrev pub resident_by : Form → Option ResidentLine
 resident_by (resident name items) = Some (record { name = name; items = items })
 resident_by (hospital name capacity items) = None
@@ -36,6 +38,7 @@ hospital_by (hospital name capacity items) = Some (record { name = name; capacit
 hospital_by finish = None
 hospital_by other = None
 
+-- the residents and the hospitals that lines declare, in their order, and their names
 abbrev pub residents_of : List Row → List ResidentLine
 residents_of rows = filter_map (λ row. resident_by (form_of row)) rows
 
@@ -50,6 +53,7 @@ hospital_names rows = map (λ line. line.name) (hospitals_of rows)
 
 -- what stands before a line
 
+-- none of the lines has a token
 abbrev pub all_blank : List Row → Bool
 all_blank rows = list_all is_blank rows
 
@@ -58,12 +62,14 @@ abbrev pub is_headed : List Row → Bool
 is_headed [] = false
 is_headed (row ∷ rows) = if is_blank row then is_headed rows else is_header row
 
+-- the form of `end`
 abbrev pub is_finish : Form → Bool
 is_finish finish = true
 is_finish (resident name items) = false
 is_finish (hospital name capacity items) = false
 is_finish other = false
 
+-- one of the lines is `end`
 abbrev pub is_finished : List Row → Bool
 is_finished rows = list_any (λ row. is_finish (form_of row)) rows
 
@@ -73,54 +79,63 @@ is_open rows = is_headed rows && not (is_finished rows)
 
 -- the kinds of a line between the header and `end`, by its form
 
+-- 2: neither a declaration nor `end`
 abbrev pub bad_line : Form → Bool
 bad_line other = true
 bad_line finish = false
 bad_line (resident name items) = false
 bad_line (hospital name capacity items) = false
 
+-- 3: its name, or a word of its list, is no name
 abbrev pub bad_name : Form → Bool
 bad_name (resident name items) = not (is_name name && list_all is_name (words items))
 bad_name (hospital name capacity items) = not (is_name name && list_all is_name (words items))
 bad_name finish = false
 bad_name other = false
 
+-- 4: the capacity is none
 abbrev pub bad_capacity : Form → Bool
 bad_capacity (hospital name capacity items) = not (is_capacity capacity)
 bad_capacity (resident name items) = false
 bad_capacity finish = false
 bad_capacity other = false
 
+-- 5: an earlier line declares the name on the same side
 abbrev pub declared_twice : List Row → Form → Bool
 declared_twice before (resident name items) = is_among name (resident_names before)
 declared_twice before (hospital name capacity items) = is_among name (hospital_names before)
 declared_twice before finish = false
 declared_twice before other = false
 
+-- 6: its list names what no line declares
 abbrev pub unknown_name : List Row → Form → Bool
 unknown_name all (resident name items) = not (list_all (λ w. is_among w (hospital_names all)) (words items))
 unknown_name all (hospital name capacity items) = not (list_all (λ w. is_among w (resident_names all)) (words items))
 unknown_name all finish = false
 unknown_name all other = false
 
+-- 7: its list has one name twice
 abbrev pub named_twice : Form → Bool
 named_twice (resident name items) = not (are_apart (words items))
 named_twice (hospital name capacity items) = not (are_apart (words items))
 named_twice finish = false
 named_twice other = false
 
+-- 8: its items are no groups
 abbrev pub bad_tie : Form → Bool
 bad_tie (resident name items) = is_none (groups_of items)
 bad_tie (hospital name capacity items) = is_none (groups_of items)
 bad_tie finish = false
 bad_tie other = false
 
+-- 11: the lines before declare as many residents as there may be
 abbrev pub too_many_residents : List Row → Form → Bool
 too_many_residents before (resident name items) = length (residents_of before) == most_residents
 too_many_residents before (hospital name capacity items) = false
 too_many_residents before finish = false
 too_many_residents before other = false
 
+-- 12: the lines before declare as many hospitals as there may be
 abbrev pub too_many_hospitals : List Row → Form → Bool
 too_many_hospitals before (hospital name capacity items) = length (hospitals_of before) == most_hospitals
 too_many_hospitals before (resident name items) = false
@@ -156,6 +171,7 @@ has_kind rows (suc i) n =
     if all_blank rows then i == 0 && n == 1
     else unwrap_or (option_map (λ row. stands n (take i rows) row (drop (suc i) rows)) (slice_get rows i)) false
 
+-- a line, counted from 1, and the number of the kind that stands in it
 pub record Refusal : Type 0 where
   pub line : ℕ
   pub kind : ℕ
@@ -164,9 +180,11 @@ pub record Refusal : Type 0 where
 abbrev pub kind_in : List Row → ℕ → Option ℕ
 kind_in rows k = find (has_kind rows k) (1 ∷ 2 ∷ 3 ∷ 4 ∷ 5 ∷ 7 ∷ 8 ∷ 9 ∷ 10 ∷ 11 ∷ 12 ∷ [])
 
+-- 6, if it stands in line k
 abbrev pub unknown_in : List Row → ℕ → Option ℕ
 unknown_in rows k = if has_kind rows k 6 then Some 6 else None
 
+-- the refusal of line k, if it has a kind, or else the later one
 abbrev pub line_or : ℕ → Option ℕ → Option Refusal → Option Refusal
 line_or k (Some n) later = Some (record { line = k; kind = n })
 line_or k None later = later
@@ -176,6 +194,7 @@ abbrev pub first_line : (ℕ → Option ℕ) → ℕ → ℕ → Option Refusal
 first_line kind k zero = None
 first_line kind k (suc count) = line_or k (kind k) (first_line kind (k + 1) count)
 
+-- the first refusal, or else the later one
 abbrev pub or_else : Option Refusal → Option Refusal → Option Refusal
 or_else (Some refusal) later = Some refusal
 or_else None later = later
@@ -190,12 +209,15 @@ refusal rows = or_else (refusal_but_6 rows) (first_line (unknown_in rows) 1 (len
 
 -- the lists
 
+-- the place of a name among names, or their count
 abbrev pub number_in : List (List ℕ) → List ℕ → ℕ
 number_in names name = position_or_len (bytes_eq name) names
 
+-- the groups of items by the numbers of their names
 abbrev pub groups_in : List (List ℕ) → List Token → List (List ℕ)
 groups_in names items = map (map (number_in names)) (unwrap_or (groups_of items) [])
 
+-- a resident, and a hospital, as it is declared, with the numbers of the names in its list
 abbrev pub resident_in : List (List ℕ) → ResidentLine → DraftResident
 resident_in hospitals line = record { name = line.name; groups = groups_in hospitals line.items }
 

@@ -6,6 +6,7 @@ use Rattle.rank_tables.specs.declared.draft.DraftResident.{DraftResident}
 use Rattle.rank_tables.specs.declared.draft.DraftHospital.{DraftHospital}
 use Rattle.rank_tables.specs.WellFormed.{names_of_residents, names_of_hospitals}
 
+-- the name of a number
 abbrev pub name_at : List (List ℕ) → ℕ → List ℕ
 name_at names x = unwrap_or (slice_get names x) []
 
@@ -15,9 +16,11 @@ group_text names [] = []
 group_text names (x ∷ []) = 32 ∷ name_at names x
 group_text names (x ∷ y ∷ group) = 32 ∷ 40 ∷ (join_with_byte 32 (map (name_at names) (x ∷ y ∷ group)) ++ 41 ∷ [])
 
+-- the groups of a list
 abbrev pub items_text : List (List ℕ) → List (List ℕ) → List ℕ
 items_text names groups = flat_map (group_text names) groups
 
+-- the line of a resident, and of a hospital, without its line feed
 abbrev pub resident_text : List (List ℕ) → DraftResident → List ℕ
 resident_text hospitals r = codes "resident" ++ 32 ∷ (r.name ++ 58 ∷ items_text hospitals r.groups)
 

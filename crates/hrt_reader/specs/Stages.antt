@@ -10,6 +10,7 @@ use Rattle.hrt_reader.specs.Refusal.{all_blank, is_headed, is_finished, is_open,
 use Rattle.hrt_text.specs.Grammar.{Form, is_blank}
 use Rattle.hrt_reader.specs.Kinds.{flaw_number}
 
+-- lines have come to this stage
 abbrev pub IsStage : Stage → List Row → Type 0
 IsStage stage.Start before = all_blank before ≡ true
 IsStage stage.Open before = is_open before ≡ true
@@ -19,6 +20,7 @@ IsStage stage.Ended before = (is_headed before ≡ true) × (is_finished before 
 unfoldable pub kind_early : List Row → Row → List Row → Option ℕ
 kind_early before row after = find (λ n. stands n before row after) (1 ∷ 2 ∷ 3 ∷ 4 ∷ 5 ∷ 7 ∷ 8 ∷ 10 ∷ 11 ∷ 12 ∷ [])
 
+-- the least kind in a line but for 6
 unfoldable pub kind_there : List Row → Row → List Row → Option ℕ
 kind_there before row after = find (λ n. stands n before row after) (1 ∷ 2 ∷ 3 ∷ 4 ∷ 5 ∷ 7 ∷ 8 ∷ 9 ∷ 10 ∷ 11 ∷ 12 ∷ [])
 
@@ -33,6 +35,7 @@ StepsTo before row after residents hospitals (step.Next next) =
     × (resident_names (before ++ row ∷ []) ≡ residents) × (hospital_names (before ++ row ∷ []) ≡ hospitals)
 StepsTo before row after residents hospitals (step.Refused flaw) = (is_blank row ≡ false) × (kind_there before row after ≡ Some (flaw_number flaw))
 
+-- the line of a declaration with this flaw, if it has one: in the last line a missing end, 9, comes before what has a greater number
 abbrev pub StepsBy : Option Flaw → Bool → Step → Type 0
 StepsBy None is_last made = made ≡ step.Next stage.Open
 StepsBy (Some flaw) is_last (step.Next next) = ⊥

@@ -7,7 +7,7 @@ use Rattle.hrt_reader.specs.declared.refusals.LimitKind.TheVariants.{Residents, 
 use Rattle.hrt_reader.specs.Kinds.{number}
 use Rattle.hrt_reader.specs.Refusal.{Refusal, bad_name, bad_capacity, bad_tie}
 
--- the code's refusal is this one
+-- The code's refusal is this one; want of memory tells nothing.
 abbrev pub IsRefusedBy : Option Refusal → ReadRefusal → Type 0
 IsRefusedBy refusal (Bad kind line) = refusal ≡ Some (record { line = line; kind = number kind })
 IsRefusedBy refusal (Limit Residents) = (line : ℕ) × (refusal ≡ Some (record { line = line; kind = 11 }))

@@ -6,6 +6,7 @@ use Rattle.hrt_reader.specs.Spelling.{name_at, items_text}
 use Rattle.hrt_reader.specs.declared.pieces.Side.{Side}
 use Rattle.hrt_reader.specs.declared.pieces.Side.TheVariants.{Residents, Hospitals}
 
+-- the names of a side
 abbrev pub names_of : Side → Lists → List (List ℕ)
 names_of Residents lists = names_of_residents lists
 names_of Hospitals lists = names_of_hospitals lists

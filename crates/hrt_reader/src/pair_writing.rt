@@ -4,7 +4,6 @@ ghost use Rattle.std.specs.Prelude.{◌≡◌, ◌++◌, ◌∷◌, [], All, IsT
 ghost use Rattle.hrt_base.specs.Calls.{Sent, SentPart};
 ghost use Rattle.rank_tables.specs.Numbers.{is_distinct};
 ghost use Rattle.rank_tables.specs.Tables.{IsPairNo, numbers_of};
-ghost use Rattle.rank_tables.specs.WellFormed.{IsWellFormed};
 ghost use Rattle.hrt_reader.specs.PairsText.{SpellsPairs, pair_text, pairs_spelling};
 
 use crate::pieces::write_pieces;
@@ -50,8 +49,10 @@ pub fn write_pairs<H: Host>(
     requires distinct { IsTrue (is_distinct (numbers_of pairs.now)) }
     ensures sent { OnOk result (Sent H.told port (pairs_spelling inst.now (numbers_of pairs.now)) (H.world host.old) (H.world host.new)) }
     ensures failed { OnErr result (SentPart H.told port (pairs_spelling inst.now (numbers_of pairs.now)) (H.world host.old) (H.world host.new)) }
-    ensures read_back { IsWellFormed inst.now → SpellsPairs inst.now (pairs_spelling inst.now (numbers_of pairs.now)) (numbers_of pairs.now) }
+    ensures read_back { SpellsPairs inst.now (pairs_spelling inst.now (numbers_of pairs.now)) (numbers_of pairs.now) }
 {
+    // Its contract says that the lists are well-formed.
+    let _count = inst.residents();
     for pair in pairs {
         write_pair(inst, *pair, host, port)?;
     }

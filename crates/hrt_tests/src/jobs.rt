@@ -17,29 +17,33 @@ use stability_model::Model;
 use std::alloc::Global;
 use std::test::Fail;
 
-// The first matching is smaller than the ceiling.
-const OPEN: &[u8] =
+/// The first matching is smaller than the ceiling.
+pub const OPEN: &[u8] =
     b"hrt 1\nresident a: (x y) z\nresident b: (x y)\nresident c: x\nhospital x 1: (a b) c\nhospital y 1: (a b)\nhospital z 1: a\nend\n";
 
-// As the worked instance, but x ranks a above b.
-const STRICT: &[u8] =
+/// As the worked instance, but x ranks a above b.
+pub const STRICT: &[u8] =
     b"hrt 1\nresident a: x y\nresident b: x\nhospital x 1: a b\nhospital y 1: a\nend\n";
 
-// The proof of the worked instance's bound, and of its best matching.
-const BOUND_PROOF: &[u8] =
+/// The proof of the worked instance's bound.
+pub const BOUND_PROOF: &[u8] =
     b"pseudo-Boolean proof version 2.0\nf 7\npol 1 2 +\n* note bound 8\noutput NONE\nconclusion BOUNDS -2 INF\nend pseudo-Boolean proof\n";
 
-const QUICK_PROOF: &[u8] =
+/// The proof of the worked instance's bound and of its best matching.
+pub const QUICK_PROOF: &[u8] =
     b"pseudo-Boolean proof version 2.0\nf 7\npol 1 2 +\n* note bound 8\nsoli ~x1 x2 x3\npol 8 9 +\noutput NONE\nconclusion BOUNDS -2 -2\nend pseudo-Boolean proof\n";
 
 // Two begin to write, nine lines of the model, its seal, the proof and its seal.
 const CALLS: u64 = 14;
 
-const EMPTY: &[u8] = b"hrt 1\nend\n";
+/// No resident and no hospital.
+pub const EMPTY: &[u8] = b"hrt 1\nend\n";
 
-const NO_POST: &[u8] = b"hrt 1\nresident a: x\nresident b: x\nhospital x 0: a b\nend\n";
+/// A hospital without a post.
+pub const NO_POST: &[u8] = b"hrt 1\nresident a: x\nresident b: x\nhospital x 0: a b\nend\n";
 
-const TOWN: &[u8] =
+/// Two pairs are deleted, and the first matching is best.
+pub const TOWN: &[u8] =
     b"hrt 1\nresident anna: General City\nresident ben: City General\nresident cleo: General\nresident dan: (City General)\nhospital General 2: anna (ben cleo) dan\nhospital City 1: (anna ben dan)\nend\n";
 
 // A host on which a model and a proof are being written, whose calls move at most so many bytes and of which this one fails.

@@ -4,6 +4,8 @@
 #[cfg(test)]
 mod audits;
 #[cfg(test)]
+mod bounds;
+#[cfg(test)]
 mod checks;
 #[cfg(test)]
 mod definition;

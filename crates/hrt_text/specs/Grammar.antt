@@ -11,25 +11,29 @@ abbrev pub value_from : ℕ → List ℕ → ℕ
 value_from value [] = value
 value_from value (b ∷ digits) = value_from (value * 10 + (b - 48)) digits
 
+-- one to five digits, of a value of at most the most posts
 abbrev pub is_capacity : List ℕ → Bool
 is_capacity w = nat_le 1 (length w) && nat_le (length w) 5 && all_ascii_digits w && nat_le (value_from 0 w) most_capacity
 
 -- items
 
+-- the bytes of a token that is a word
 abbrev pub word_of : Token → Option (List ℕ)
 word_of (word w) = Some w
 word_of colon = None
 word_of opening = None
 word_of closing = None
 
+-- the words of items
 abbrev pub words : List Token → List (List ℕ)
 words items = filter_map word_of items
 
--- The groups of items, or None where the items have a `:` or parentheses that are nested, unpaired or empty.
--- The first argument has the names of the group whose parenthesis is open.
+-- the names of a group
 abbrev pub Group : Type 0
 Group = List (List ℕ)
 
+-- The groups of items, or None where the items have a `:` or parentheses that are nested, unpaired or empty.
+-- The first argument has the names of the group whose parenthesis is open.
 abbrev pub groups_from : Option Group → List Token → Option (List Group)
 groups_from None [] = Some []
 groups_from (Some group) [] = None
@@ -42,17 +46,20 @@ groups_from (Some (name ∷ group)) (closing ∷ items) = option_map (λ groups.
 groups_from None (word w ∷ items) = option_map (λ groups. (w ∷ []) ∷ groups) (groups_from None items)
 groups_from (Some group) (word w ∷ items) = groups_from (Some (group ++ w ∷ [])) items
 
+-- the groups of the items of a declaration, if they are groups
 abbrev pub groups_of : List Token → Option (List Group)
 groups_of items = groups_from None items
 
 -- lines
 
+-- a declaration with its parts, the end, or neither
 pub data Form : Type 0 where
   resident : List ℕ → List Token → Form
   hospital : List ℕ → List ℕ → List Token → Form
   finish : Form
   other : Form
 
+-- the form of a line that begins with `resident`, with `hospital`, and with `end`, by what follows
 abbrev pub resident_form : List Token → Form
 resident_form (word name ∷ colon ∷ items) = resident name items
 resident_form _ = other
@@ -65,6 +72,7 @@ abbrev pub finish_form : List Token → Form
 finish_form [] = finish
 finish_form _ = other
 
+-- the form of a line by its first word and what follows
 abbrev pub form_by : List ℕ → List Token → Form
 form_by first tokens =
     if bytes_eq first (codes "resident") then resident_form tokens
@@ -77,6 +85,7 @@ abbrev pub form_of : Row → Form
 form_of (word first ∷ tokens) = form_by first tokens
 form_of _ = other
 
+-- a line without tokens
 abbrev pub is_blank : Row → Bool
 is_blank [] = true
 is_blank (t ∷ row) = false

@@ -1,5 +1,5 @@
 -- One pair is deleted.
-use Rattle.std.proofs.Common.{◌≡◌, ℕ, ◌+◌, ◌-◌, ◌≤◌, true, false, ◌==◌, List, [], ◌∷◌, length, get_or, refl, sym, ap, ◌∙◌, subst, inl, inr, arith}
+use Rattle.std.proofs.Common.{◌≡◌, ℕ, ◌+◌, ◌-◌, ◌≤◌, true, false, ◌==◌, List, [], ◌∷◌, ◌++◌, append_assoc, length, get_or, refl, sym, ap, ◌∙◌, subst, inl, inr, arith}
 use Rattle.std.specs.Prelude.{Some, slice_get, slice_set}
 use Rattle.std.proofs.lemmas.Bool.{eqb-true, false_from_ne_true, or_cases}
 use Rattle.std.proofs.lemmas.Option.{slice_get-get_or}
@@ -12,7 +12,7 @@ use Rattle.stability_model.specs.Model.{rows}
 use Rattle.proof_lines.specs.declared.line.Line.TheVariants.{Del, Rup}
 use Rattle.proof_lines.specs.declared.note.Note.TheVariants.{Unit as UnitRow}
 use Rattle.proof_lines.specs.Spelling.{row_no}
-use Rattle.proof_lines.specs.Texts.{line_text}
+use Rattle.proof_lines.specs.Texts.{line_text, note_text}
 use Rattle.proof_rules.specs.Held.{Held, is_held, keeping, row_numbers}
 use Rattle.proof_rules.specs.States.{IsInOrder}
 use Rattle.proof_rules.proofs.Held.{is_held-keeping}
@@ -26,7 +26,7 @@ use Rattle.pair_reduction.specs.Added.{AddsNotes, LeavesOnly, unit_notes}
 use Rattle.pair_reduction.proofs.Added.{adds_further, adds_line, adds_note, only_row}
 use Rattle.pair_reduction.proofs.Forgets.{CanForget, Forgot, forgot}
 use Rattle.pair_reduction.proofs.Offering.{goes_further, goes_row, goes_same, kept_further, kept_row, numbered_row}
-use Rattle.pair_reduction.proofs.Writable.{live_within}
+use Rattle.proof_rules.proofs.Numbers.{live_within}
 
 -- ---- ready again
 
@@ -56,16 +56,13 @@ ready_again old new id row ready goes kept held found = record {
 
 -- ---- the line and the note
 
+unit_text : (p : ℕ) (old new : Derived) → new ≡ with_unit p old → (text : List ℕ) × (new.pending ≡ old.pending ++ text)
+unit_text p old new e = (line_text (Rup (written_of (unit_row p))) ++ note_text (UnitRow (row_no old.state.next)), ap (λ (d : Derived). d.pending) e ∙ append_assoc old.pending (line_text (Rup (written_of (unit_row p)))) (note_text (UnitRow (row_no old.state.next))))
+
 unit_goes : (p : ℕ) (old new : Derived) → new ≡ with_unit p old → StaysValid old new → GoesOn old new
-unit_goes p old new e valid = record { lists = ap (λ (d : Derived). d.lists) e; claim = ap (λ (d : Derived). d.claim) e; least = ap (λ (d : Derived). d.state.least) e; valid = valid }
-
-pub stops_goes : (p : ℕ) (old new : Derived) → StopsAtUnit p old new → StaysValid old new → GoesOn old new
-stops_goes p old new (inl e) valid = goes_same old new e
-stops_goes p old new (inr e) valid = goes_row (unit_row p) (line_text (Rup (written_of (unit_row p)))) old new e valid
-
-pub stops_few : (p : ℕ) (old new : Derived) → StopsAtUnit p old new → new.state.next ≤ old.state.next + 1
-stops_few p old new (inl e) = let n : new.state.next ≡ old.state.next = ap (λ (d : Derived). d.state.next) e in omega arith
-stops_few p old new (inr e) = let n : new.state.next ≡ old.state.next + 1 = ap (λ (d : Derived). d.state.next) e in omega arith
+unit_goes p old new e valid =
+    let next : new.state.next ≡ old.state.next + 1 = ap (λ (d : Derived). d.state.next) e in
+    record { more = unit_text p old new e; later = omega arith; lists = ap (λ (d : Derived). d.lists) e; claim = ap (λ (d : Derived). d.claim) e; least = ap (λ (d : Derived). d.state.least) e; valid = valid }
 
 unit_kept : (p : ℕ) (old new : Derived) → new ≡ with_unit p old → KeepsLive old new
 unit_kept p old new e n row found = ap (λ (d : Derived). row_of n d.state.live) e ∙ kept_row (unit_row p) (line_text (Rup (written_of (unit_row p)))) old (with_unit_row p old) refl n row found
@@ -140,7 +137,7 @@ module _ (p : ℕ) (start mid unit : Derived) (before after : Deletions) (ids : 
     after_all = forgot ids unit new can_forget taken
 
     all_goes : GoesOn start new
-    all_goes = goes_further start unit new goes (record { lists = after_all.lists; claim = after_all.claim; least = after_all.least; valid = stays })
+    all_goes = goes_further start unit new goes (record { more = (line_text (Del ids), after_all.pending); later = omega (arith, after_all.next); lists = after_all.lists; claim = after_all.claim; least = after_all.least; valid = stays })
 
     not_made : (n : ℕ) (other : PlainRow) → row_of n start.state.live ≡ Some other → is_in n (row_numbers ids) ≡ false
     not_made n other e = false_from_ne_true (is_in n (row_numbers ids)) (λ i. let place = live_within n start.state.next other start.state.live first_order e in let later = (made.each n i).0 in omega (arith, place.1, later))

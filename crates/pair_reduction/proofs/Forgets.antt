@@ -19,7 +19,7 @@ use Rattle.proof_rules.proofs.HeldLive.{numbered-without}
 use Rattle.derivation.specs.Derived.{Derived}
 use Rattle.derivation.specs.Steps.{IsWritable, Takes}
 use Rattle.pair_reduction.proofs.Offering.{numbered_row}
-use Rattle.pair_reduction.proofs.Writable.{live_within}
+use Rattle.proof_rules.proofs.Numbers.{live_within}
 
 -- ---- rows by number
 

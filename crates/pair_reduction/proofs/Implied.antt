@@ -15,7 +15,7 @@ use Rattle.rank_tables.proofs.Numbers.{element, is_in-filter}
 use Rattle.stability_model.specs.Model.{hospital_has_pair, hospital_row, hospital_row_no, pair_row, pair_row_no, resident_has_pair, resident_row, resident_row_no, resident_rows}
 use Rattle.stability_model.specs.Gone.{is_sure, rule_a}
 use Rattle.stability_model.proofs.Growing.{is_pair_row}
-use Rattle.stability_model.proofs.PairNumbers.{is_pair, pair_listed, pair_of_resident}
+use Rattle.rank_tables.proofs.PairNumbers.{is_pair, pair_listed, pair_of_resident}
 use Rattle.stability_model.proofs.Places.{names_hospital_row, names_resident_row}
 use Rattle.proof_rules.specs.States.{live_rows}
 use Rattle.derivation.specs.Deletions.{AreUnitRows, Deletions, is_deleted, unit_of, unit_row}

@@ -4,6 +4,11 @@ mod AtMost
 mod RuleA
 mod RuleB
 mod Tested
+mod TwoSides
+mod RankTests
+mod Stacked
+mod Settling
+mod Visiting
 mod OfferRun
 mod OfferRow
 mod Writable

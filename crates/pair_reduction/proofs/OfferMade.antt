@@ -17,7 +17,7 @@ use Rattle.rank_tables.proofs.Below.{length-numbers_to}
 use Rattle.rank_tables.proofs.Numbers.{is_in-filter}
 use Rattle.stability_model.specs.Model.{IsRow, has_any, hospital_has_pair, hospital_row, hospital_row_no, pair_row, pair_row_no, resident_rows, rows}
 use Rattle.stability_model.specs.Gone.{has_only}
-use Rattle.stability_model.proofs.PairNumbers.{is_pair, pair_listed}
+use Rattle.rank_tables.proofs.PairNumbers.{is_pair, pair_listed}
 use Rattle.stability_model.proofs.Places.{names_hospital_row}
 use Rattle.proof_lines.specs.declared.line.PolStep.{PolStep}
 use Rattle.proof_lines.specs.declared.line.PolStep.TheVariants.{Id, Add}

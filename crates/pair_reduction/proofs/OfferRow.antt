@@ -21,7 +21,7 @@ use Rattle.rank_tables.proofs.Unique.{pairs-apart}
 use Rattle.stability_model.specs.Model.{hospital_row, hospital_row_no, pair_row, pair_row_no, stability_coef}
 use Rattle.stability_model.specs.Gone.{has_only}
 use Rattle.stability_model.proofs.CoefRows.{at_most-row, coefs_over, minus_one, none_negative, pair_coefs, pair_row-coefs}
-use Rattle.stability_model.proofs.PairNumbers.{is_pair, listed_pair, pair_listed, pair_of_resident}
+use Rattle.rank_tables.proofs.PairNumbers.{is_pair, listed_pair, pair_listed, pair_of_resident}
 use Rattle.proof_lines.specs.declared.line.PolStep.{PolStep}
 use Rattle.proof_lines.specs.declared.line.PolStep.TheVariants.{Id, Add}
 use Rattle.proof_lines.specs.Spelling.{is_small_step, row_no}

@@ -1,8 +1,8 @@
 -- Offers one after another: the rows that are made.
-use Rattle.std.proofs.Common.{◌≡◌, ℕ, zero, suc, ◌+◌, ◌<◌, ◌≤◌, Bool, true, false, not, ◌&&◌, ◌||◌, ◌==◌, List, [], ◌∷◌, ◌++◌, nat_lt, if◌then◌else◌, length, take, get_or, count_by, refl, sym, ap, ◌∙◌, subst, inl, inr, arith}
+use Rattle.std.proofs.Common.{◌≡◌, ℕ, zero, suc, ◌+◌, ◌<◌, ◌≤◌, Bool, true, false, not, ◌&&◌, ◌||◌, ◌==◌, List, [], ◌∷◌, ◌++◌, append_assoc, nat_lt, if◌then◌else◌, length, take, get_or, count_by, refl, sym, ap, ◌∙◌, subst, inl, inr, arith}
 use Rattle.std.specs.Prelude.{Option, Some, None, IfSome}
 use Rattle.std.proofs.lemmas.Bool.{and_from, and_parts, eqb-true, false_from_ne_true, leb-true, le-ltb, lt-ltb, not-true, not_from_false, or_cases, or_left, or_right, true≢false}
-use Rattle.std.proofs.lemmas.List.{length-append, take_more}
+use Rattle.std.proofs.lemmas.List.{append-nil, length-append, take_more}
 use Rattle.std.proofs.lemmas.List.Sums.{sum_by_push}
 use Rattle.hrt_base.specs.declared.numbered.RowNo.{RowNo}
 use Rattle.hrt_base.specs.declared.numbered.PairNo.{PairNo}
@@ -36,10 +36,10 @@ use Rattle.pair_reduction.specs.Reduced.{Adds, AreMade, GoesOn, HaveOffers, HasO
 -- ---- going on
 
 pub goes_nowhere : (d : Derived) → GoesOn d d
-goes_nowhere d = record { lists = refl; claim = refl; least = refl; valid = λ text h. h }
+goes_nowhere d = record { more = ([], sym (append-nil d.pending)); later = omega arith; lists = refl; claim = refl; least = refl; valid = λ text h. h }
 
 pub goes_further : (a b c : Derived) → GoesOn a b → GoesOn b c → GoesOn a c
-goes_further a b c g h = record { lists = h.lists ∙ g.lists; claim = h.claim ∙ g.claim; least = h.least ∙ g.least; valid = λ text s. h.valid text (g.valid text s) }
+goes_further a b c g h = record { more = (g.more.0 ++ h.more.0, h.more.1 ∙ ap (λ (t : List ℕ). t ++ h.more.0) g.more.1 ∙ append_assoc a.pending g.more.0 h.more.0); later = omega (arith, g.later, h.later); lists = h.lists ∙ g.lists; claim = h.claim ∙ g.claim; least = h.least ∙ g.least; valid = λ text s. h.valid text (g.valid text s) }
 
 pub goes_same : (a b : Derived) → b ≡ a → GoesOn a b
 goes_same a b e = subst (GoesOn a) (sym e) (goes_nowhere a)
@@ -56,7 +56,8 @@ units_kept a b deletions kept units p = by (unit_of deletions p) (units p)
 
 pub goes_row : (row : PlainRow) (text : List ℕ) (old new : Derived) → new ≡ with_new_row row text old → StaysValid old new → GoesOn old new
 goes_row row text old new e valid =
-    record { lists = ap (λ (d : Derived). d.lists) e; claim = ap (λ (d : Derived). d.claim) e; least = ap (λ (d : Derived). d.state.least) e; valid = valid }
+    let next : new.state.next ≡ old.state.next + 1 = ap (λ (d : Derived). d.state.next) e in
+    record { more = (text, ap (λ (d : Derived). d.pending) e); later = omega arith; lists = ap (λ (d : Derived). d.lists) e; claim = ap (λ (d : Derived). d.claim) e; least = ap (λ (d : Derived). d.state.least) e; valid = valid }
 
 pub kept_row : (row : PlainRow) (text : List ℕ) (old new : Derived) → new ≡ with_new_row row text old → KeepsLive old new
 kept_row row text old new e n other found =
@@ -231,13 +232,6 @@ has_offers lists deletions p qs live count have distinct within enough = record 
 
 pub offering_as : (lists : Lists) (start new now : Derived) (deletions : Deletions) (p posts : ℕ) (qs : List ℕ) (ids more : List RowNo) → now ≡ new → more ≡ ids → Offering lists start new deletions p posts qs ids → Offering lists start now deletions p posts qs more
 offering_as lists start new now deletions p posts qs ids more e f o = subst (λ (d : Derived). Offering lists start d deletions p posts qs more) (sym e) (subst (λ (xs : List RowNo). Offering lists start new deletions p posts qs xs) (sym f) o)
-
-pair_push : (ps : List PairNo) (p : PairNo) → numbers_of (ps ++ p ∷ []) ≡ numbers_of ps ++ p.0 ∷ []
-pair_push [] p = refl
-pair_push (x ∷ ps) p = ap (λ (ns : List ℕ). x.0 ∷ ns) (pair_push ps p)
-
-pub next_number : (ps : List PairNo) (i : ℕ) (d : PairNo) → i < length ps → numbers_of (take (i + 1) ps) ≡ numbers_of (take i ps) ++ (get_or ps i d).0 ∷ []
-next_number ps i d h = ap numbers_of (take_more ps i d h) ∙ pair_push (take i ps) (get_or ps i d)
 
 pub is_offering_by : (inst lists : Lists) (deletions : Deletions) (p q x y : ℕ) → inst ≡ lists → x ≡ rank_by_hospital inst q → y ≡ rank_by_hospital inst p → x < y → has_only inst (is_deleted deletions) q ≡ true → is_offering lists deletions p q ≡ true
 is_offering_by inst lists deletions p q x y same e f less only =

@@ -19,6 +19,7 @@ use Rattle.proof_rules.proofs.Held.{is_in-append}
 use Rattle.derivation.specs.Deletions.{AreUnitRows, Deletions, deleted_count, is_deleted, unit_of, unit_row}
 use Rattle.derivation.specs.Derived.{Derived}
 use Rattle.derivation.specs.Ready.{IsReady}
+use Rattle.pair_reduction.specs.Known.{IsOneMore}
 use Rattle.pair_reduction.specs.Reduced.{AreInNone, CanReduce, Deletes, HoldsUnits, IsClosedTo, Reduces}
 use Rattle.pair_reduction.proofs.Added.{adds_nothing, only_further, only_none, units_further}
 use Rattle.pair_reduction.proofs.Offering.{goes_further, goes_nowhere, kept_further, units_kept}
@@ -72,10 +73,6 @@ grown_unit before p q id other first last absent e =
 
 was_deleted : (before : Deletions) (p q : ℕ) (id : RowNo) → 1 ≤ p → p ≤ length before → is_deleted (slice_set before (p - 1) (Some id)) q ≡ true → (q ≡ p → ⊥) → is_deleted before q ≡ true
 was_deleted before p q id first last e other = ap is_some (sym (marked_other before p id first last q other)) ∙ e
-
-some_of : (o : Option RowNo) → is_some o ≡ true → (id : RowNo) × (o ≡ Some id)
-some_of None e = absurd (true≢false (sym e))
-some_of (Some id) e = (id, refl)
 
 one_of : (n k : ℕ) → is_in n (k ∷ []) ≡ true → n ≡ k
 one_of n k e = elim (or_cases (k == n) false e) [
@@ -178,47 +175,28 @@ reduces_more lists a b c x y z g h = record {
       ];
 }
 
-pub reduces_as : (lists : Lists) (a b c : Derived) (x y z : Deletions) → c ≡ b → z ≡ y → Reduces lists a b x y → Reduces lists a c x z
-reduces_as lists a b c x y z e f g = subst (λ (d : Derived). Reduces lists a d x z) (sym e) (subst (λ (m : Deletions). Reduces lists a b x m) (sym f) g)
-
 -- ---- one pair is tried
 
 pub left_of : (lists : Lists) (d : Derived) (deletions : Deletions) (p : ℕ) → CanReduce lists d deletions → IsPairNo lists p → is_deleted deletions p ≡ false → deleted_count deletions + 1 ≤ pair_count lists
 left_of lists d deletions p can p_is e =
     omega (arith, one_left deletions p (row_no 0) p_is.0 (omega (arith, can.pairs, p_is.1)) (absent_from (unit_of deletions p) e), can.pairs)
 
-pub tried_a : (inst lists : Lists) (old new : Derived) (before after : Deletions) (p : ℕ) → CanReduce lists old before → IsPairNo lists p → is_deleted before p ≡ false → inst ≡ lists → rule_a inst (is_deleted before) p ≡ true → Deletes old new before after p →
+pub tried_a : (lists : Lists) (old new : Derived) (before after : Deletions) (p : ℕ) → CanReduce lists old before → IsPairNo lists p → is_deleted before p ≡ false → rule_a lists (is_deleted before) p ≡ true → Deletes old new before after p →
     new.state.next ≤ old.state.next + 20001 → Reduces lists old new before after
-tried_a inst lists old new before after p can p_is e same rule d few =
-    reduces_one lists old new before after p can p_is (absent_from (unit_of before p) e)
-    (or_left (rule_a lists (is_deleted before) p) (rule_b lists (is_deleted before) p) (subst (λ (l : Lists). rule_a l (is_deleted before) p ≡ true) same rule)) d few
+tried_a lists old new before after p can p_is e rule d few = reduces_one lists old new before after p can p_is (absent_from (unit_of before p) e) (or_left (rule_a lists (is_deleted before) p) (rule_b lists (is_deleted before) p) rule) d few
 
-pub tried_b : (inst lists : Lists) (old new : Derived) (before after : Deletions) (p : ℕ) → CanReduce lists old before → IsPairNo lists p → is_deleted before p ≡ false → inst ≡ lists → rule_b inst (is_deleted before) p ≡ true → Deletes old new before after p →
+pub tried_b : (lists : Lists) (old new : Derived) (before after : Deletions) (p : ℕ) → CanReduce lists old before → IsPairNo lists p → is_deleted before p ≡ false → rule_b lists (is_deleted before) p ≡ true → Deletes old new before after p →
     new.state.next ≤ old.state.next + 20001 → Reduces lists old new before after
-tried_b inst lists old new before after p can p_is e same rule d few =
-    reduces_one lists old new before after p can p_is (absent_from (unit_of before p) e)
-    (or_right (rule_a lists (is_deleted before) p) (rule_b lists (is_deleted before) p) (subst (λ (l : Lists). rule_b l (is_deleted before) p ≡ true) same rule)) d few
+tried_b lists old new before after p can p_is e rule d few = reduces_one lists old new before after p can p_is (absent_from (unit_of before p) e) (or_right (rule_a lists (is_deleted before) p) (rule_b lists (is_deleted before) p) rule) d few
 
--- at least one more is deleted
-pub one_more : (old new : Derived) (before after : Deletions) (p : ℕ) → 1 ≤ p → p ≤ length before → is_deleted before p ≡ false → Deletes old new before after p → deleted_count before < deleted_count after
-one_more old new before after p first last e d = omega (arith, ap deleted_count d.marked, marked_count before p (row_no d.id) first last (absent_from (unit_of before p) e))
-
-neither : (a b : Bool) → a ≡ false → b ≡ false → (a || b) ≡ true → ⊥
-neither true b e f h = true≢false e
-neither false true e f h = true≢false f
-neither false false e f h = true≢false (sym h)
-
-pub closed_by_none : (inst other lists : Lists) (deletions : Deletions) (p : ℕ) → inst ≡ lists → other ≡ lists → rule_a inst (is_deleted deletions) p ≡ false → rule_b other (is_deleted deletions) p ≡ false → IsClosedTo lists deletions p
-closed_by_none inst other lists deletions p same again a b h =
-    absurd (neither (rule_a lists (is_deleted deletions) p) (rule_b lists (is_deleted deletions) p) (subst (λ (l : Lists). rule_a l (is_deleted deletions) p ≡ false) same a) (subst (λ (l : Lists). rule_b l (is_deleted deletions) p ≡ false) again b) h)
-
--- ---- a pass
-
-pub closed_more : (lists : Lists) (old new : Deletions) (done p : ℕ) → ((q : ℕ) → 1 ≤ q → q ≤ done → IsClosedTo lists old q) → new ≡ old → IsClosedTo lists new (done + 1) → 1 ≤ p → p ≤ done + 1 → IsClosedTo lists new p
-closed_more lists old new done p so_far same here first last = elim (cases_eq p (done + 1)) [
-  | inl e ↦ subst (IsClosedTo lists new) (sym e) here
-  | inr other ↦ subst (λ (m : Deletions). IsClosedTo lists m p) (sym same) (so_far p first (omega arith))
-]
+-- one more is deleted
+pub is_one_more : (old new : Derived) (before after : Deletions) (p : ℕ) → 1 ≤ p → p ≤ length before → is_deleted before p ≡ false → Deletes old new before after p → IsOneMore before after p
+is_one_more old new before after p first last e d = record {
+  gone = ap is_some (ap (λ (m : Deletions). unit_of m p) d.marked ∙ marked_here before p (row_no d.id) first last);
+  others = λ q other. ap is_some (ap (λ (m : Deletions). unit_of m q) d.marked ∙ marked_other before p (row_no d.id) first last q other);
+  size = ap length d.marked ∙ length-set before (p - 1) (Some (row_no d.id));
+  count = ap deleted_count d.marked ∙ marked_count before p (row_no d.id) first last (absent_from (unit_of before p) e);
+}
 
 -- ---- the end
 

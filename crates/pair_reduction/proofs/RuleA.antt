@@ -15,7 +15,7 @@ use Rattle.stability_model.specs.Model.{is_as_good_for_resident, pair_row, resid
 use Rattle.stability_model.specs.Gone.{Pairs, is_sure}
 use Rattle.stability_model.proofs.CoefRows.{pair_coefs, pair_row-coefs}
 use Rattle.stability_model.proofs.Counts.{count_in_filter}
-use Rattle.stability_model.proofs.PairNumbers.{is_pair, listed_pair, pair_listed}
+use Rattle.rank_tables.proofs.PairNumbers.{is_pair, listed_pair, pair_listed}
 use Rattle.derivation.specs.Deletions.{unit_row}
 use Rattle.pair_reduction.proofs.AtMost.{counted_below, others_false, taken_one, taken_two, taken_most}
 use Rattle.pair_reduction.proofs.Quiet.{enough_open, open_sum, opposite_held, unit_held}

@@ -15,7 +15,7 @@ use Rattle.rank_tables.proofs.Numbers.{distinct-numbers_to, is_in-filter}
 use Rattle.stability_model.specs.Model.{hospital_row}
 use Rattle.stability_model.proofs.CoefRows.{coefs_over, over-row}
 use Rattle.stability_model.proofs.Counts.{count_in_filter}
-use Rattle.stability_model.proofs.PairNumbers.{is_pair, listed_pair, pair_listed}
+use Rattle.rank_tables.proofs.PairNumbers.{is_pair, listed_pair, pair_listed}
 use Rattle.derivation.specs.Deletions.{unit_row}
 use Rattle.pair_reduction.specs.Offers.{is_lower, offer_coef, offer_row}
 use Rattle.pair_reduction.proofs.AtMost.{counted_below, is_taken, taken_most, taken_one, taken_sum, units_le}

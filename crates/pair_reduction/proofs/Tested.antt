@@ -1,8 +1,8 @@
 -- Tests of the pairs of a list, one after another.
-use Rattle.std.proofs.Common.{◌≡◌, ℕ, zero, suc, ◌+◌, ◌<◌, ◌≤◌, ◌^◌, Bool, true, false, ◌&&◌, ◌||◌, ◌==◌, ◌-◌, nat_lt, List, [], ◌∷◌, length, take, get_or, count_by, Fits, w64, refl, sym, ap, ◌∙◌, subst, arith}
+use Rattle.std.proofs.Common.{◌≡◌, ℕ, zero, suc, ◌+◌, ◌<◌, ◌≤◌, ◌^◌, Bool, true, false, ◌&&◌, ◌||◌, ◌==◌, ◌-◌, nat_lt, List, [], ◌∷◌, ◌++◌, length, take, get_or, count_by, Fits, w64, refl, sym, ap, ◌∙◌, subst, arith}
 use Rattle.std.specs.List.{list_all, list_any}
 use Rattle.std.proofs.lemmas.Bool.{eq-eqb, false_from_ne_true, or_left, or_right, true≢false, and_from, le-ltb, lt-ltb, ne_eqb}
-use Rattle.std.proofs.lemmas.List.{length-take, take_all}
+use Rattle.std.proofs.lemmas.List.{length-take, take_all, take_more}
 use Rattle.std.proofs.lemmas.List.Sums.{count_by-le-length}
 use Rattle.hrt_base.specs.declared.numbered.PairNo.{PairNo}
 use Rattle.rank_tables.specs.Numbers.{is_distinct, is_in}
@@ -12,7 +12,7 @@ use Rattle.rank_tables.specs.Numbers.{numbers_to}
 use Rattle.rank_tables.specs.Instance.{Lists, pair_at, pair_count, pairs_of_hospital, pairs_of_resident, rank_by_resident}
 use Rattle.rank_tables.proofs.Numbers.{distinct-filter, distinct-numbers_to}
 use Rattle.stability_model.specs.Gone.{Pairs, has_only, is_sure, rule_a}
-use Rattle.stability_model.proofs.Counts.{any_at, count_in_list}
+use Rattle.stability_model.proofs.Counts.{count_alike}
 use Rattle.stability_model.proofs.GoneLocal.{count_same_in}
 
 pub number_in : (ps : List PairNo) (i : ℕ) (d : PairNo) → i < length ps → is_in (get_or ps i d).0 (numbers_of ps) ≡ true
@@ -20,28 +20,17 @@ number_in [] i d h = absurd (omega arith)
 number_in (p ∷ ps) zero d h = or_left (p.0 == p.0) (is_in p.0 (numbers_of ps)) (eq-eqb p.0 p.0 refl)
 number_in (p ∷ ps) (suc i) d h = or_right (p.0 == (get_or ps i d).0) (is_in (get_or ps i d).0 (numbers_of ps)) (number_in ps i d (omega arith))
 
-pub any_found : (t : ℕ → Bool) (ps : List PairNo) (numbers : List ℕ) (i : ℕ) (d : PairNo) → numbers_of ps ≡ numbers → i < length ps → t (get_or ps i d).0 ≡ true → list_any t numbers ≡ true
-any_found t ps numbers i d e h k = subst (λ (ns : List ℕ). list_any t ns ≡ true) e (any_at t (get_or ps i d).0 (numbers_of ps) (number_in ps i d h) k)
-
 pub all_broken : (t : ℕ → Bool) (ps : List PairNo) (numbers : List ℕ) (i : ℕ) (d : PairNo) → numbers_of ps ≡ numbers → i < length ps → t (get_or ps i d).0 ≡ false → list_all t numbers ≡ false
 all_broken t ps numbers i d e h k =
     subst (λ (ns : List ℕ). list_all t ns ≡ false) e
     (false_from_ne_true (list_all t (numbers_of ps)) (λ a. true≢false (sym (all_at t (numbers_of ps) (get_or ps i d).0 a (number_in ps i d h)) ∙ k)))
 
-length-numbers : (ps : List PairNo) → length (numbers_of ps) ≡ length ps
-length-numbers [] = refl
-length-numbers (p ∷ ps) = ap suc (length-numbers ps)
+pair_push : (ps : List PairNo) (p : PairNo) → numbers_of (ps ++ p ∷ []) ≡ numbers_of ps ++ p.0 ∷ []
+pair_push [] p = refl
+pair_push (x ∷ ps) p = ap (λ (ns : List ℕ). x.0 ∷ ns) (pair_push ps p)
 
--- a count of the front fits
-pub front_fits : (t : ℕ → Bool) (ps : List PairNo) (i n : ℕ) → i < 2 ^ 64 - 1 → n ≡ count_by t (numbers_of (take i ps)) → Fits w64 (n + 1)
-front_fits t ps i n h e =
-    record { fits = omega (arith, e, count_by-le-length t (numbers_of (take i ps)), length-numbers (take i ps), length-take i ps) }
-
--- lists of the same numbers, without repeats, have one count
-pub count_alike : (t : ℕ → Bool) (ps qs : List ℕ) → is_distinct ps ≡ true → is_distinct qs ≡ true → ((p : ℕ) → is_in p ps ≡ is_in p qs) → count_by t ps ≡ count_by t qs
-count_alike t ps qs d e alike =
-    count_in_list t qs ps e d (all_from (λ x. is_in x qs) ps (λ x i. sym (alike x) ∙ i))
-    ∙ count_same_in (λ x. is_in x ps && t x) t qs (λ x i. ap (λ (b : Bool). b && t x) (alike x ∙ i))
+pub next_number : (ps : List PairNo) (i : ℕ) (d : PairNo) → i < length ps → numbers_of (take (i + 1) ps) ≡ numbers_of (take i ps) ++ (get_or ps i d).0 ∷ []
+next_number ps i d h = ap numbers_of (take_more ps i d h) ∙ pair_push (take i ps) (get_or ps i d)
 
 -- a count over a hospital's pairs as listed
 pub listed_count : (lists : Lists) (h k : ℕ) (t : ℕ → Bool) (ps : List PairNo) (i : ℕ) → h ≡ k → length ps ≤ i → is_distinct (numbers_of ps) ≡ true → ((p : ℕ) → is_in p (numbers_of ps) ≡ is_in p (pairs_of_hospital lists h)) →
@@ -64,9 +53,3 @@ only_broken lists gone q r i ps d numbers same within other left le =
     sym (all_broken (λ o. o == q || gone o || nat_lt (rank_by_resident lists q) (rank_by_resident lists o)) ps (pairs_of_resident lists (pair_at lists q).resident) i d (numbers ∙ ap (pairs_of_resident lists) same) within
     (broken ((get_or ps i d).0 == q) (gone (get_or ps i d).0) (nat_lt (rank_by_resident lists q) (rank_by_resident lists (get_or ps i d).0)) (ne_eqb (get_or ps i d).0 q other) left
     (le-ltb (rank_by_resident lists q) (rank_by_resident lists (get_or ps i d).0) le)))
-
-pub sure_found : (lists : Lists) (gone : Pairs) (w r i : ℕ) (ps : List PairNo) (d : PairNo) → numbers_of ps ≡ pairs_of_resident lists r → r ≡ (pair_at lists w).resident → i < length ps → is_sure lists gone (get_or ps i d).0 ≡ true →
-    rank_by_resident lists (get_or ps i d).0 < rank_by_resident lists w → true ≡ rule_a lists gone w
-sure_found lists gone w r i ps d numbers same within sure less =
-    sym (any_found (λ p. is_sure lists gone p && nat_lt (rank_by_resident lists p) (rank_by_resident lists w)) ps (pairs_of_resident lists (pair_at lists w).resident) i d (numbers ∙ ap (pairs_of_resident lists) same) within
-    (and_from (is_sure lists gone (get_or ps i d).0) (nat_lt (rank_by_resident lists (get_or ps i d).0) (rank_by_resident lists w)) sure (lt-ltb (rank_by_resident lists (get_or ps i d).0) (rank_by_resident lists w) less)))

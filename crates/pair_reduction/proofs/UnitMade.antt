@@ -1,6 +1,6 @@
 -- What the line and the note of a deleted pair ask for, and what they do.
 use Rattle.std.proofs.Common.{◌≡◌, ℕ, ◌-◌, ◌*◌, ◌<◌, ◌≤◌, ◌^◌, true, ◌&&◌, List, [], ◌∷◌, ◌++◌, nat_le, if◌then◌else◌, length, pos, refl, sym, ap, ap₂, ◌∙◌, subst, inr, zero-le, arith}
-use Rattle.std.specs.Prelude.{Result, Ok, Err, codes, decimal, OnErr}
+use Rattle.std.specs.Prelude.{Result, Ok, Err, IfOk, codes, decimal, OnErr}
 use Rattle.std.specs.Fmt.{digits, signed_decimal}
 use Rattle.std.specs.List.{list_all}
 use Rattle.std.proofs.lemmas.Bool.{and_from, and_parts, le-leb, leb-true}
@@ -32,6 +32,10 @@ unit_normal p = record { rising = (zero-le, omega arith, tt); fits = record { su
 
 pub unit_form : (p : ℕ) → normal_form (weighing 1 (record { var = p; neg = true }) ∷ []) (pos 1) ≡ unit_row p
 unit_form p = normal_form-normal (unit_row p) (unit_normal p)
+
+pub row_is : {E : Type 0} (p : ℕ) (result : Result PlainRow E) → IfOk result (λ row. row ≡ normal_form (weighing 1 (record { var = p; neg = true }) ∷ []) (pos 1)) → IfOk result (λ row. row ≡ unit_row p)
+row_is p (Ok row) h = h ∙ unit_form p
+row_is p (Err e) h = tt
 
 spaced_most : (ws : List (List ℕ)) → list_all (λ w. nat_le (length w) 20) ws ≡ true → length (spaced ws) ≤ 21 * length ws
 spaced_most [] h = omega arith

@@ -17,7 +17,7 @@ use Rattle.proof_lines.specs.declared.line.Line.TheVariants.{Pol}
 use Rattle.proof_lines.specs.Spelling.{is_small_step}
 use Rattle.proof_lines.specs.Texts.{is_made_step, step_words}
 use Rattle.proof_rules.specs.States.{AreNumbered}
-use Rattle.proof_rules.proofs.Numbers.{none-below, none-from}
+use Rattle.proof_rules.proofs.Numbers.{live_within}
 use Rattle.derivation.specs.Deletions.{AreUnitRows, Deletions, unit_of, unit_row}
 use Rattle.derivation.specs.Steps.{IsWritable}
 use Rattle.pair_reduction.specs.Offers.{unit_steps}
@@ -70,19 +70,6 @@ times_good c h k = record {
 }
 
 -- ---- the line of an offer
-
--- the number of a live row is 1 or more, and below the next
-pub live_within : (k next : ℕ) (row : PlainRow) (live : List NumberedRow) → AreNumbered 1 next live → row_of k live ≡ Some row → (1 ≤ k) × (k < next)
-live_within k next row live order e = (
-  elim (cases_lt k 1) [
-    | inl below ↦ let none : row_of k live ≡ None = none-below k 1 next live below order in absurd (cc)
-    | inr other ↦ other
-  ],
-  elim (cases_lt k next) [
-    | inl below ↦ below
-    | inr past ↦ let none : row_of k live ≡ None = none-from k 1 next live past order in absurd (cc)
-  ],
-)
 
 module _ (live : List NumberedRow) (next : ℕ) (order : AreNumbered 1 next live) (few : next ≤ 10 ^ 18) where
   pub live_good : (id : RowNo) (row : PlainRow) → row_of id.0 live ≡ Some row → AreGood (Id id ∷ []) 19

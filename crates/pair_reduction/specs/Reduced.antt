@@ -1,5 +1,5 @@
 -- What a reduction leaves.
-use Rattle.std.specs.Prelude.{◌||◌, ◌^◌, [], ◌∷◌, ◌-◌, slice_set, Bool, ◌&&◌, nat_lt, count_by, ◌≡◌, ℕ, ◌+◌, ◌*◌, ◌≤◌, true, false, ◌⊎◌, List, length, Some}
+use Rattle.std.specs.Prelude.{◌||◌, ◌^◌, [], ◌∷◌, ◌++◌, ◌-◌, slice_set, Bool, ◌&&◌, nat_lt, count_by, ◌≡◌, ℕ, ◌+◌, ◌*◌, ◌≤◌, true, false, ◌⊎◌, List, length, Some}
 use Rattle.pb_rows.specs.Terms.{PlainRow}
 use Rattle.hrt_base.specs.declared.numbered.RowNo.{RowNo}
 use Rattle.pb_rows.specs.Formula.{NumberedRow, is_numbered, row_of}
@@ -28,8 +28,10 @@ AreInNone lists deletions = (m : List ℕ) (p : ℕ) → is_weakly_stable lists 
 abbrev pub KeepsLive : Derived → Derived → Type 0
 KeepsLive old new = (n : ℕ) (row : PlainRow) → row_of n old.state.live ≡ Some row → row_of n new.state.live ≡ Some row
 
--- the derivation went on by more lines that log and conclude nothing
+-- the derivation went on by more lines, which log and conclude nothing
 pub record GoesOn (old new : Derived) : Type 0 where
+  pub more : (text : List ℕ) × (new.pending ≡ old.pending ++ text)
+  pub later : old.state.next ≤ new.state.next
   pub lists : new.lists ≡ old.lists
   pub claim : new.claim ≡ old.claim
   pub least : new.state.least ≡ old.state.least

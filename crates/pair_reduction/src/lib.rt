@@ -2,9 +2,14 @@
 #![tactic(auto)]
 
 mod deletions;
+mod known;
 mod offers;
-mod passes;
+mod ranks;
+mod reduction;
 mod rules;
+mod sides;
 mod units;
+mod visits;
+mod waiting;
 
-pub use passes::reduce;
+pub use reduction::reduce;

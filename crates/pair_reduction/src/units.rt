@@ -16,7 +16,7 @@ use proof_lines::Note;
 use stability_model::Model;
 use std::alloc::Global;
 
-/// The row that a pair isn't taken. It is never too big.
+/// The row that a pair isn't taken.
 fn unit_row(alloc: Global, p: PairNo) -> Result<Row, NoMemory>
     ensures { IfOk result (λ row. row ≡ unit_row p.0) }
 {
@@ -27,10 +27,7 @@ fn unit_row(alloc: Global, p: PairNo) -> Result<Row, NoMemory>
             neg: true,
         },
     }];
-    match Row::from_terms(alloc, &terms, 1) {
-        Ok(row) => Ok(row),
-        Err(_) => Err(NoMemory),
-    }
+    Row::from_terms_that_fit(alloc, &terms, 1)
 }
 
 /// Deletes a pair whose unit row follows from the live rows.

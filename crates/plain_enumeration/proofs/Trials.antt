@@ -1,30 +1,17 @@
 -- What is known after so many sets were tried, and that the last one leaves a largest stable matching.
-use Rattle.std.proofs.Common.{◌≡◌, ℕ, ◌+◌, ◌^◌, ◌<◌, ◌≤◌, true, List, [], ◌∷◌, get_or, length, ◌⊎◌, inl, inr, refl, sym, ap, ◌∙◌, subst, arith, below_more}
+use Rattle.std.proofs.Common.{◌≡◌, ℕ, ◌+◌, ◌^◌, ◌<◌, ◌≤◌, true, List, [], ◌∷◌, length, ◌⊎◌, inl, inr, refl, sym, ap, ◌∙◌, subst, arith, below_more}
 use Rattle.std.specs.List.Sorted.{IsStrictlyIncreasing}
-use Rattle.std.proofs.lemmas.List.FromFn.{get_or-range_with_len}
-use Rattle.std.proofs.lemmas.List.Kept.{IsStrictlyIncreasing-filter}
-use Rattle.rank_tables.specs.Numbers.{numbers_to}
 use Rattle.rank_tables.specs.Instance.{Lists, pair_count}
 use Rattle.rank_tables.specs.Stability.{is_weakly_stable, Best}
-use Rattle.rank_tables.proofs.Below.{length-numbers_to, numbers_to-range}
+use Rattle.rank_tables.proofs.Below.{rising-chosen}
 use Rattle.plain_enumeration.specs.Sets.{is_member, members}
 use Rattle.plain_enumeration.proofs.Existence.{stable_exists}
 use Rattle.plain_enumeration.proofs.Sets.{sets_suffice}
 
 -- ---- members rise
 
-place : (n i : ℕ) → i < n → get_or (numbers_to n) i 0 ≡ 1 + i
-place n i h = ap (λ xs. get_or xs i 0) (numbers_to-range n) ∙ get_or-range_with_len 1 n i 0 h
-
-rising-numbers_to : (n : ℕ) → IsStrictlyIncreasing (numbers_to n)
-rising-numbers_to n = λ k h.
-    let long = length-numbers_to n in
-    let here : get_or (numbers_to n) k 0 ≡ 1 + k = place n k (omega arith) in
-    let next : get_or (numbers_to n) (k + 1) 0 ≡ 1 + (k + 1) = place n (k + 1) (omega arith) in
-    omega arith
-
 rising-members : (set n : ℕ) → IsStrictlyIncreasing (members set n)
-rising-members set n = IsStrictlyIncreasing-filter (is_member set) (numbers_to n) (rising-numbers_to n)
+rising-members set n = rising-chosen (is_member set) n
 
 -- ---- the best list so far
 
@@ -33,9 +20,6 @@ pub record IsLongest (lists : Lists) (tried : ℕ) (best : List ℕ) : Type 0 wh
   pub kept : (is_weakly_stable lists best ≡ true) ⊎ (best ≡ [])
   pub rising : IsStrictlyIncreasing best
   pub longest : (set : ℕ) → set < tried → is_weakly_stable lists (members set (pair_count lists)) ≡ true → length (members set (pair_count lists)) ≤ length best
-
-pub longest_of_none : (lists : Lists) → IsLongest lists 0 []
-longest_of_none lists = record { kept = inr refl; rising = λ k h. absurd (omega arith); longest = λ set h s. absurd (omega arith) }
 
 -- the next set has no longer stable list
 pub longest_still : (lists : Lists) (tried : ℕ) (best : List ℕ) → IsLongest lists tried best →

@@ -1,14 +1,14 @@
 -- One resident after another is settled: it proposes, and then each one that was put out, until none of them is waiting.
 use Rattle.std.proofs.Common.{◌≡◌, ℕ, ◌+◌, ◌<◌, ◌≤◌, Bool, true, false, not, ◌&&◌, List, length, Option, Some, None, is_some, IfSome, sym, ap, ◌∙◌, inl, inr, subst, arith}
 use Rattle.std.specs.Option.{option_and_then}
-use Rattle.std.proofs.lemmas.Bool.{true≢false, and_from, and_parts, and_right, ltb-true, not_from_false, cases_eq, cases_lt}
+use Rattle.std.proofs.lemmas.Bool.{true≢false, and_from, and_parts, ltb-true, not_from_false, cases_eq, cases_lt}
 use Rattle.rank_tables.specs.Numbers.{below}
 use Rattle.rank_tables.specs.Instance.{Lists, pair_at}
 use Rattle.rank_tables.specs.Tables.{IsPairNo}
 use Rattle.rank_tables.proofs.Numbers.{is_in-below}
 use Rattle.rank_tables.proofs.PairFacts.{pair_at-acceptable}
 use Rattle.promotion_heuristic.specs.declared.standing.Standing.{Standing}
-use Rattle.promotion_heuristic.specs.Promotion.{at_top, start, standing_of, holds, next_after, next_pair, is_waiting, worst, taken, turned_away, proposal, proposed}
+use Rattle.promotion_heuristic.specs.Promotion.{at_top, standing_of, holds, next_after, next_pair, is_waiting, worst, taken, turned_away, proposal, proposed}
 use Rattle.promotion_heuristic.specs.Rounds.{left_out, IsReached, AreSettled}
 use Rattle.promotion_heuristic.proofs.Counting.{one_if}
 use Rattle.promotion_heuristic.proofs.Finding.{find-none, find-below}
@@ -16,7 +16,7 @@ use Rattle.promotion_heuristic.proofs.Standings.{next_is, standing-same, standin
 use Rattle.promotion_heuristic.proofs.Proposals.{IsProposal, proposal_is}
 use Rattle.promotion_heuristic.proofs.Worst.{worst-some}
 use Rattle.promotion_heuristic.proofs.Exchange.{held-apart}
-use Rattle.promotion_heuristic.proofs.Steps.{takes, is_refused, exchanges, outcome, standing-start, tries_left, one-or-none, fewer-left, reached-fair, reached-proposed}
+use Rattle.promotion_heuristic.proofs.Steps.{takes, is_refused, exchanges, outcome, tries_left, one-or-none, fewer-left, reached-fair, reached-proposed}
 
 -- of the first residents up to r, only the one named may be waiting; it is unassigned; the others haven't begun
 pub record IsChain (lists : Lists) (s : List Standing) (r : ℕ) (named : Option ℕ) : Type 0 where
@@ -34,35 +34,8 @@ same-waiting lists s t x e = ap (waits_by lists x) e
 assigned-waiting : (lists : Lists) (t : List Standing) (x : ℕ) → (standing_of t x).assigned ≡ true → is_waiting lists t x ≡ false
 assigned-waiting lists t x e = ap (λ b. not b && is_some (next_pair lists t x)) e
 
-pub chain-start : (lists : Lists) (s : List Standing) (r : ℕ) → AreSettled lists s r → IsChain lists s r (Some r)
-chain-start lists s r a = record {
-  out = (omega arith, ap (λ (v : Standing). v.assigned) (a.untouched r (omega arith)));
-  others = λ x l apart. elim (cases_eq x r) [
-    | inl same ↦ absurd (apart (ap Some (sym same)))
-    | inr other ↦ a.settled x (omega arith)
-  ];
-  untouched = λ x l. a.untouched x (omega arith);
-}
-
-pub chain-done : (lists : Lists) (s : List Standing) (r : ℕ) → IsChain lists s r None → AreSettled lists s (r + 1)
-chain-done lists s r h = record {
-  settled = λ x l. h.others x (omega arith) (λ e. absurd (cc));
-  untouched = λ x l. h.untouched x (omega arith);
-}
-
 some_same : (a b : ℕ) → Some a ≡ Some b → a ≡ b
 some_same a b e = cc
-
--- a resident at the end of its list waits no more
-pub chain-end : (lists : Lists) (s : List Standing) (r c : ℕ) → IsChain lists s r (Some c) → next_pair lists s c ≡ None → IsChain lists s r None
-chain-end lists s r c h e = record {
-  out = tt;
-  others = λ x l apart. elim (cases_eq c x) [
-    | inl same ↦ subst (λ (z : ℕ). is_waiting lists s z ≡ false) same (and_right _ _ (ap is_some e))
-    | inr other ↦ h.others x l (λ f. other (some_same c x f))
-  ];
-  untouched = h.untouched;
-}
 
 -- the one that is named makes the next proposal
 pub chain-proposal : (lists : Lists) (s : List Standing) (r c p : ℕ) → r < length lists.residents → IsChain lists s r (Some c) → next_pair lists s c ≡ Some p → proposal lists s ≡ Some p
@@ -149,9 +122,6 @@ pub proposer-unassigned : (lists : Lists) (s : List Standing) (p : ℕ) → prop
 proposer-unassigned lists s p e = (proposal_is lists s p e).unassigned
 
 -- ---- all residents
-
-pub settled-start : (lists : Lists) → AreSettled lists (start lists) 0
-settled-start lists = record { settled = λ r l. absurd (omega arith); untouched = λ r l. standing-start (length lists.residents) r }
 
 pub settled-ended : (lists : Lists) (s : List Standing) → AreSettled lists s (length lists.residents) → proposal lists s ≡ None
 settled-ended lists s a =

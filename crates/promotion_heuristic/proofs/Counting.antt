@@ -19,14 +19,6 @@ count_by-filter_and t u xs = sum_by-filter (λ x. one_if (u x)) t xs ∙ sum_by_
 
 -- ---- sums
 
--- the same terms at the elements of a list
-pub sum_by_at : (f g : ℕ → ℕ) (xs : List ℕ) → ((x : ℕ) → is_in x xs ≡ true → f x ≡ g x) → sum_by f xs ≡ sum_by g xs
-sum_by_at f g [] h = refl
-sum_by_at f g (x ∷ xs) h =
-    let here : f x ≡ g x = h x (or_left _ _ (eq-eqb x x refl)) in
-    let rest : sum_by f xs ≡ sum_by g xs = sum_by_at f g xs (λ y i. h y (or_right _ _ i)) in
-    omega (arith, sum_by-cons f x xs, sum_by-cons g x xs)
-
 pub sum_le : (f g : ℕ → ℕ) (xs : List ℕ) → ((x : ℕ) → is_in x xs ≡ true → f x ≤ g x) → sum_by f xs ≤ sum_by g xs
 sum_le f g [] h = omega arith
 sum_le f g (x ∷ xs) h =

@@ -7,10 +7,11 @@ use Rattle.rank_tables.specs.Instance.{Lists, pair_count, pair_at, rank_by_hospi
 use Rattle.rank_tables.specs.Stability.{uses_of_hospital}
 use Rattle.rank_tables.specs.Tables.{IsPairNo, IsOfResident}
 use Rattle.rank_tables.proofs.Numbers.{sum_by_same, distinct-numbers_to}
+use Rattle.rank_tables.proofs.PairNumbers.{pair_listed}
 use Rattle.promotion_heuristic.specs.declared.standing.Standing.{Standing}
 use Rattle.promotion_heuristic.specs.Promotion.{standing_of, holds, held, taken, turned_away, has_room}
 use Rattle.promotion_heuristic.proofs.Counting.{one_if, count_by-filter_and, count_more}
-use Rattle.promotion_heuristic.proofs.Standings.{in_numbers, standing-same, standing-other, length-taken, length-turned_away, after-unassigned, holds-taken, holds-turned_away, came_to, Reaches, came_to-taken, came_to-turned_away, next-reached}
+use Rattle.promotion_heuristic.proofs.Standings.{standing-same, standing-other, length-taken, length-turned_away, after-unassigned, holds-taken, holds-turned_away, came_to, Reaches, came_to-taken, came_to-turned_away, next-reached}
 use Rattle.promotion_heuristic.proofs.Worst.{IsHeldAt}
 use Rattle.promotion_heuristic.proofs.Proposals.{IsProposal}
 
@@ -40,7 +41,7 @@ held-more lists s t p n free e g =
     let new : ℕ → Bool = λ q. holds lists t q && g q in
     elim (cases_Bool (g p)) [
       | inl here ↦
-          count_more old new p nums (distinct-numbers_to (pair_count lists)) (in_numbers lists p n)
+          count_more old new p nums (distinct-numbers_to (pair_count lists)) (pair_listed lists p n)
           (ap (λ b. b && g p) free)
           (λ q. ap (λ b. b && g q) (e q) ∙ absorbed (holds lists s q) (q == p) (g q) (λ same. ap g (eqb-true q p same) ∙ here))
           ∙ ap (λ b. count_by old nums + one_if b) (sym here)

@@ -14,7 +14,7 @@ use Rattle.promotion_heuristic.specs.declared.standing.Standing.{Standing}
 use Rattle.promotion_heuristic.specs.Promotion.{holds, held, proposal, final, promotion}
 use Rattle.promotion_heuristic.specs.Rounds.{IsReached, AreSettled}
 use Rattle.promotion_heuristic.proofs.Chains.{settled-ended}
-use Rattle.promotion_heuristic.proofs.Rising.{rising-chosen}
+use Rattle.rank_tables.proofs.Below.{rising-chosen}
 use Rattle.promotion_heuristic.proofs.Stable.{promotion-stable}
 use Rattle.promotion_heuristic.proofs.Steps.{final-ended, reached-final}
 

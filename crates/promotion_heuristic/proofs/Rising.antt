@@ -1,34 +1,17 @@
 -- Rising pairs: which one comes first after a number.
-use Rattle.std.proofs.Common.{◌≡◌, ℕ, zero, suc, ◌+◌, ◌<◌, ◌≤◌, Bool, true, false, ◌==◌, nat_lt, nat_le, List, [], ◌∷◌, length, filter, get_or, Option, Some, None, option_map, Bor, refl, sym, ap, ◌∙◌, inl, inr, subst, arith}
+use Rattle.std.proofs.Common.{◌≡◌, ℕ, zero, suc, ◌+◌, ◌<◌, ◌≤◌, true, false, ◌==◌, nat_lt, nat_le, List, [], ◌∷◌, length, get_or, Option, Some, None, option_map, Bor, refl, sym, ap, ◌∙◌, inl, inr, subst, arith}
 use Rattle.std.specs.List.{find, slice_get}
 use Rattle.std.specs.List.Sorted.{IsStrictlyIncreasing, IsPartitionedBy, IsPartitionPoint}
 use Rattle.std.specs.Option.{option_copied}
 use Rattle.std.specs.Slice.{IsItemAt}
 use Rattle.std.proofs.lemmas.Bool.{lt-ltb, le-ltb, ltb-true, ltb-false, leb-true, leb-false, cases_lt}
 use Rattle.std.proofs.lemmas.List.{get_or-map, length-map}
-use Rattle.std.proofs.lemmas.List.FromFn.{get_or-range_with_len}
 use Rattle.std.proofs.lemmas.List.Sorted.{IsPartitionedBy-leb}
 use Rattle.std.proofs.lemmas.Option.{slice_get_past, slice_get-get_or}
-use Rattle.std.proofs.lemmas.List.Kept.{IsStrictlyIncreasing-filter}
 use Rattle.hrt_base.specs.declared.numbered.PairNo.{PairNo}
-use Rattle.rank_tables.specs.Numbers.{numbers_to}
 use Rattle.rank_tables.specs.Instance.{Lists, pair_count, pair_at, pairs_of_resident}
 use Rattle.rank_tables.specs.Tables.{numbers_of}
-use Rattle.rank_tables.proofs.Below.{length-numbers_to, numbers_to-range}
-
-place : (n i : ℕ) → i < n → get_or (numbers_to n) i 0 ≡ 1 + i
-place n i h = ap (λ xs. get_or xs i 0) (numbers_to-range n) ∙ get_or-range_with_len 1 n i 0 h
-
-rising-numbers_to : (n : ℕ) → IsStrictlyIncreasing (numbers_to n)
-rising-numbers_to n = λ k h.
-    let long = length-numbers_to n in
-    let here : get_or (numbers_to n) k 0 ≡ 1 + k = place n k (omega arith) in
-    let next : get_or (numbers_to n) (k + 1) 0 ≡ 1 + (k + 1) = place n (k + 1) (omega arith) in
-    omega arith
-
--- chosen pairs rise
-pub rising-chosen : (test : ℕ → Bool) (n : ℕ) → IsStrictlyIncreasing (filter test (numbers_to n))
-rising-chosen test n = IsStrictlyIncreasing-filter test (numbers_to n) (rising-numbers_to n)
+use Rattle.rank_tables.proofs.Below.{rising-chosen}
 
 pub rising-pairs_of_resident : (lists : Lists) (r : ℕ) (pairs : List PairNo) → numbers_of pairs ≡ pairs_of_resident lists r → IsStrictlyIncreasing (numbers_of pairs)
 rising-pairs_of_resident lists r pairs e = subst IsStrictlyIncreasing (sym e) (rising-chosen (λ p. (pair_at lists p).resident == r) (pair_count lists))

@@ -9,10 +9,11 @@ use Rattle.rank_tables.specs.WellFormed.{IsWellFormed}
 use Rattle.rank_tables.proofs.Numbers.{element, all_at, all_from, is_in-filter, distinct-numbers_to}
 use Rattle.rank_tables.proofs.Membership.{chosen_distinct}
 use Rattle.rank_tables.proofs.PairFacts.{pair_at-acceptable}
+use Rattle.rank_tables.proofs.PairNumbers.{pair_listed, listed_pair}
 use Rattle.promotion_heuristic.specs.declared.standing.Standing.{Standing}
 use Rattle.promotion_heuristic.specs.Promotion.{standing_of, holds, held, proposal, promotion, final}
 use Rattle.promotion_heuristic.proofs.Counting.{count_by-filter_and, count_one}
-use Rattle.promotion_heuristic.proofs.Standings.{in_numbers, from_numbers, none_next, came_to, held-one}
+use Rattle.promotion_heuristic.proofs.Standings.{none_next, came_to, held-one}
 use Rattle.promotion_heuristic.proofs.Proposals.{proposal_none}
 use Rattle.promotion_heuristic.proofs.Fair.{IsFilled, IsFair}
 use Rattle.promotion_heuristic.proofs.Steps.{final-ended, final-fair}
@@ -21,10 +22,10 @@ use Rattle.promotion_heuristic.proofs.Written.{rank-rises}
 held-parts : (lists : Lists) (s : List Standing) (p : ℕ) → is_in p (held lists s) ≡ true → IsPairNo lists p × (holds lists s p ≡ true)
 held-parts lists s p i =
     let parts = and_parts (is_in p (numbers_to (pair_count lists))) _ (sym (is_in-filter (holds lists s) p (numbers_to (pair_count lists))) ∙ i) in
-    (from_numbers lists p parts.0, parts.1)
+    (listed_pair lists p parts.0, parts.1)
 
 held-from : (lists : Lists) (s : List Standing) (p : ℕ) → IsPairNo lists p → holds lists s p ≡ true → is_in p (held lists s) ≡ true
-held-from lists s p n h = is_in-filter (holds lists s) p (numbers_to (pair_count lists)) ∙ and_from _ _ (in_numbers lists p n) h
+held-from lists s p n h = is_in-filter (holds lists s) p (numbers_to (pair_count lists)) ∙ and_from _ _ (pair_listed lists p n) h
 
 -- ---- it is a matching
 
@@ -92,7 +93,7 @@ none_blocks lists s p w f e n b =
 pub ended-stable : (lists : Lists) (s : List Standing) → IsWellFormed lists → IsFair lists s → proposal lists s ≡ None → is_weakly_stable lists (held lists s) ≡ true
 ended-stable lists s w f e =
     and_from _ _ (matching lists s f)
-    (all_from _ (numbers_to (pair_count lists)) (λ p i. not_from_false _ (false_from_ne_true _ (none_blocks lists s p w f e (from_numbers lists p i)))))
+    (all_from _ (numbers_to (pair_count lists)) (λ p i. not_from_false _ (false_from_ne_true _ (none_blocks lists s p w f e (listed_pair lists p i)))))
 
 pub promotion-stable : (lists : Lists) → IsWellFormed lists → is_weakly_stable lists (promotion lists) ≡ true
 promotion-stable lists w = ended-stable lists (final lists) w (final-fair lists) (final-ended lists)

@@ -2,22 +2,15 @@
 use Rattle.std.proofs.Common.{◌≡◌, ℕ, ◌<◌, ◌≤◌, Bool, true, false, not, ◌&&◌, ◌||◌, ◌==◌, nat_lt, nat_le, cond, List, length, find, set, Option, Some, None, is_some, refl, sym, ap, ◌∙◌, ◌⊎◌, inl, inr, subst, arith}
 use Rattle.std.proofs.lemmas.Bool.{true≢false, eqb-true, eq-eqb, ne_eqb, and_from, and_parts, or_cases, or_left, or_right, le-leb, leb-true, lt-ltb, ltb-true, cases_lt, cases_eq, cases_Bool}
 use Rattle.std.proofs.lemmas.List.{length-set, get_or-set_same, get_or-set_other}
-use Rattle.rank_tables.specs.Numbers.{numbers_to, is_in}
+use Rattle.rank_tables.specs.Numbers.{numbers_to}
 use Rattle.rank_tables.specs.Instance.{Lists, pair_count, pair_at}
 use Rattle.rank_tables.specs.Tables.{IsPairNo}
-use Rattle.rank_tables.proofs.Numbers.{is_in-numbers_to, eqb_sym}
+use Rattle.rank_tables.proofs.Numbers.{eqb_sym}
 use Rattle.rank_tables.proofs.Below.{find-filter}
+use Rattle.rank_tables.proofs.PairNumbers.{pair_listed, listed_pair}
 use Rattle.promotion_heuristic.specs.declared.standing.Standing.{Standing}
 use Rattle.promotion_heuristic.specs.Promotion.{at_top, standing_of, is_promoted, holds, next_after, after, taken, turned_away}
 use Rattle.promotion_heuristic.proofs.Finding.{found, none_found, before_first}
-
-pub in_numbers : (lists : Lists) (p : ℕ) → IsPairNo lists p → is_in p (numbers_to (pair_count lists)) ≡ true
-in_numbers lists p n = is_in-numbers_to (pair_count lists) p ∙ and_from _ _ (le-leb 1 p n.0) (le-leb p (pair_count lists) n.1)
-
-pub from_numbers : (lists : Lists) (p : ℕ) → is_in p (numbers_to (pair_count lists)) ≡ true → IsPairNo lists p
-from_numbers lists p i =
-    let parts = and_parts (nat_le 1 p) (nat_le p (pair_count lists)) (sym (is_in-numbers_to (pair_count lists) p) ∙ i) in
-    (leb-true 1 p parts.0, leb-true p (pair_count lists) parts.1)
 
 -- ---- the next pair in a resident's list
 
@@ -43,7 +36,7 @@ next_is lists r p q e =
     let is = found (is_next lists r p) q (numbers_to (pair_count lists)) here in
     let parts = and_parts _ _ is.1 in
     record {
-      number = from_numbers lists q is.0;
+      number = listed_pair lists q is.0;
       resident = eqb-true _ _ parts.0;
       later = ltb-true p q parts.1;
       least = λ o n same less. elim (cases_lt o q) [
@@ -58,7 +51,7 @@ pub none_next : (lists : Lists) (r p : ℕ) → next_after lists r p ≡ None �
 none_next lists r p e o n same = elim (cases_lt p o) [
   | inl less ↦
       absurd (true≢false (sym (and_from _ _ (eq-eqb _ _ same) (lt-ltb p o less))
-      ∙ none_found (is_next lists r p) o (numbers_to (pair_count lists)) (next_found lists r p None e) (in_numbers lists o n)))
+      ∙ none_found (is_next lists r p) o (numbers_to (pair_count lists)) (next_found lists r p None e) (pair_listed lists o n)))
   | inr few ↦ few
 ]
 

@@ -6,11 +6,12 @@ use Rattle.rank_tables.specs.Numbers.{numbers_to}
 use Rattle.rank_tables.specs.Instance.{Lists, pair_count, pair_at, rank_by_hospital}
 use Rattle.rank_tables.specs.Tables.{IsPairNo}
 use Rattle.rank_tables.proofs.Below.{length-numbers_to}
+use Rattle.rank_tables.proofs.PairNumbers.{pair_listed}
 use Rattle.promotion_heuristic.specs.declared.standing.Standing.{Standing}
 use Rattle.promotion_heuristic.specs.Promotion.{at_top, start, standing_of, is_promoted, holds, next_after, after, is_lower, worst, taken, turned_away, has_room, displaced, proposed, proposal, steps, final}
 use Rattle.promotion_heuristic.specs.Rounds.{left_out, IsReached}
 use Rattle.promotion_heuristic.proofs.Counting.{one_if, count_by-filter_and, sum_lt, sum_within}
-use Rattle.promotion_heuristic.proofs.Standings.{in_numbers, standing-same, standing-other, Reaches}
+use Rattle.promotion_heuristic.proofs.Standings.{standing-same, standing-other, Reaches}
 use Rattle.promotion_heuristic.proofs.Worst.{worst-some, worst-none, worst-rank, not_lower-rank}
 use Rattle.promotion_heuristic.proofs.Proposals.{IsProposal, proposal_is}
 use Rattle.promotion_heuristic.proofs.Fair.{uses, IsFilled, IsFair, declared, reached, fair-taken, fair-refused}
@@ -166,7 +167,7 @@ less-turned_away lists s p l h =
 
 less-left : (lists : Lists) (s t : List Standing) (p : ℕ) → IsPairNo lists p → ((q : ℕ) → tries lists t q ≤ tries lists s q) → tries lists t p < tries lists s p →
     tries_left lists t < tries_left lists s
-less-left lists s t p n h l = sum_lt (tries lists t) (tries lists s) p (numbers_to (pair_count lists)) (λ q i. h q) (in_numbers lists p n) l
+less-left lists s t p n h l = sum_lt (tries lists t) (tries lists s) p (numbers_to (pair_count lists)) (λ q i. h q) (pair_listed lists p n) l
 
 pub fewer-left : (lists : Lists) (s : List Standing) (p : ℕ) → IsFair lists s → IsProposal lists s p → tries_left lists (proposed lists s p) < tries_left lists s
 fewer-left lists s p f a = elim (outcome lists s p a) [
@@ -248,9 +249,6 @@ reached-final lists s r e =
 
 pub reached-fair : (lists : Lists) (s : List Standing) → IsReached lists s → IsFair lists s
 reached-fair lists s r = subst (IsFair lists) r.after (fair-steps lists r.count (start lists) (fair-start lists))
-
-pub reached-start : (lists : Lists) → IsReached lists (start lists)
-reached-start lists = record { count = 0; after = refl }
 
 one_step : (lists : Lists) (n : ℕ) (s : List Standing) → steps lists (suc n) s ≡ steps lists 1 (steps lists n s)
 one_step lists zero s = refl

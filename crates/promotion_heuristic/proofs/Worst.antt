@@ -7,10 +7,11 @@ use Rattle.rank_tables.specs.Numbers.{numbers_to, is_in}
 use Rattle.rank_tables.specs.Instance.{Lists, pair_count, pair_at, rank_by_hospital}
 use Rattle.rank_tables.specs.Tables.{IsPairNo}
 use Rattle.rank_tables.proofs.Numbers.{is_in-filter, all_at, all_from}
+use Rattle.rank_tables.proofs.PairNumbers.{pair_listed, listed_pair}
 use Rattle.promotion_heuristic.specs.declared.standing.Standing.{Standing}
 use Rattle.promotion_heuristic.specs.Promotion.{is_promoted, holds, held, held_at, is_lower, is_worse, worst}
 use Rattle.promotion_heuristic.proofs.Finding.{found, none_found, find-some}
-use Rattle.promotion_heuristic.proofs.Standings.{in_numbers, from_numbers, held-one}
+use Rattle.promotion_heuristic.proofs.Standings.{held-one}
 
 -- ---- what is held
 
@@ -23,12 +24,12 @@ pub held_at-parts : (lists : Lists) (s : List Standing) (h p : ℕ) → is_in p 
 held_at-parts lists s h p i =
     let outer = and_parts (is_in p (held lists s)) _ (sym (is_in-filter (λ q. (pair_at lists q).hospital == h) p (held lists s)) ∙ i) in
     let inner = and_parts (is_in p (numbers_to (pair_count lists))) _ (sym (is_in-filter (holds lists s) p (numbers_to (pair_count lists))) ∙ outer.0) in
-    record { number = from_numbers lists p inner.0; held = inner.1; hospital = eqb-true _ _ outer.1 }
+    record { number = listed_pair lists p inner.0; held = inner.1; hospital = eqb-true _ _ outer.1 }
 
 pub held_at-from : (lists : Lists) (s : List Standing) (h p : ℕ) → IsHeldAt lists s h p → is_in p (held_at lists s h) ≡ true
 held_at-from lists s h p a =
     is_in-filter (λ q. (pair_at lists q).hospital == h) p (held lists s)
-    ∙ and_from _ _ (is_in-filter (holds lists s) p (numbers_to (pair_count lists)) ∙ and_from _ _ (in_numbers lists p a.number) a.held) (eq-eqb _ _ a.hospital)
+    ∙ and_from _ _ (is_in-filter (holds lists s) p (numbers_to (pair_count lists)) ∙ and_from _ _ (pair_listed lists p a.number) a.held) (eq-eqb _ _ a.hospital)
 
 -- ---- the order
 

@@ -7,6 +7,7 @@ use Rattle.std.specs.declared.collections.BinaryHeap.{BinaryHeap}
 use Rattle.std.specs.Global.{Global}
 use Rattle.promotion_heuristic.specs.declared.tenant.Tenant.{Tenant}
 
+-- the tenants in a heap
 abbrev pub items_of : BinaryHeap Tenant Global → List Tenant
 items_of row = heap_items row
 
@@ -14,5 +15,6 @@ items_of row = heap_items row
 abbrev pub by_worth : Tenant → Tenant → Ordering
 by_worth = then_cmp (on (λ (x : Tenant). x.rank) nat_cmp) (then_cmp (on (λ (x : Tenant). x.unpromoted) bool_cmp) (on (λ (x : Tenant). x.resident) nat_cmp))
 
+-- the heap is in this order
 abbrev pub IsOrdered : BinaryHeap Tenant Global → Type 0
 IsOrdered row = IsHeap by_worth (heap_items row)

@@ -13,20 +13,13 @@ use Rattle.proof_rules.specs.Refusals.{Refusal, NotImplied, TooBig}
 use Rattle.proof_rules.specs.States.{after, if_known, literals_in, live_rows, rup_row, with_row}
 use Rattle.proof_rules.specs.Valid.{Proving}
 use Rattle.proof_rules.specs.Refused.{Refuses}
-use Rattle.proof_checker.specs.declared.fault.Fault.{Fault}
-use Rattle.proof_checker.specs.Faults.{Answers, Halts}
 use Rattle.proof_checker.specs.Kept.{Kept, Steps, with_new_row}
 use Rattle.proof_checker.specs.Tests.{known_terms}
-use Rattle.proof_checker.proofs.Halting.{halts-as, step-leads, step-stops, then-leads, then-stops}
+use Rattle.proof_checker.proofs.Halting.{step-leads, then-leads}
 use Rattle.proof_checker.proofs.Passing.{above, known-passes, known-stops}
 
 module _ (f : Formula) (old : Kept) where
   -- ---- `rup`
-
-  halts-unmade : (w : Written) (fault : Fault) (vars : ℕ) → vars ≡ f.vars → Answers (rup_row vars w) fault → Halts f (Proving old.state) (Rup w) fault
-  halts-unmade w fault vars is h =
-      halts-as f (Proving old.state) (Rup w) (rup_row vars w) fault
-      (λ e k. step-stops (after f old.state (Rup w)) e (then-stops (rup_row f.vars w) (λ row. Ok (with_row old.state row)) e (ap (λ (n : ℕ). rup_row n w) (sym is) ∙ k))) h
 
   module _ (w : Written) (row : PlainRow) (vars : ℕ) (is : vars ≡ f.vars) (made : rup_row vars w ≡ Ok row) (normal : in_normal_form w ≡ row) where
     follows_leads : after f old.state (Rup w) ≡ Ok (with_row old.state row)

@@ -1,8 +1,8 @@
 -- The values that literals name.
-use Rattle.std.proofs.Common.{◌≡◌, ℕ, ◌+◌, ◌-◌, ◌<◌, ◌==◌, Bool, true, false, not, ◌&&◌, ◌||◌, nat_le, List, [], ◌∷◌, ◌++◌, if◌then◌else◌, length, get_or, set, count_by, replicate, map, inl, inr, refl, sym, ap, ap₂, ◌∙◌, subst, arith, Contains}
+use Rattle.std.proofs.Common.{◌≡◌, ℕ, ◌+◌, ◌-◌, ◌<◌, ◌==◌, Bool, true, false, not, ◌&&◌, ◌||◌, nat_le, List, [], ◌∷◌, ◌++◌, if◌then◌else◌, length, get_or, set, count_by, map, inl, inr, refl, sym, ap, ap₂, ◌∙◌, subst, arith, Contains}
 use Rattle.std.specs.Prelude.{Option, Some, None, is_some}
 use Rattle.std.proofs.lemmas.Bool.{and_parts, cases_Bool, cases_eq, eq-eqb, eqb-true, le-leb, leb-true, ne_eqb}
-use Rattle.std.proofs.lemmas.List.{get_or-map, get_or-replicate, get_or-set_other, get_or-set_same, length-map, length-replicate}
+use Rattle.std.proofs.lemmas.List.{get_or-map, get_or-set_other, get_or-set_same, length-map}
 use Rattle.std.proofs.Math.ListN.{length-set}
 use Rattle.std.proofs.lemmas.List.Folds.{list_any-append}
 use Rattle.std.proofs.lemmas.List.Sums.{sum_by-append, sum_by-cons}
@@ -71,13 +71,6 @@ was_unnamed ls v (Some b) e h = absurd (cc e)
 was_named : (ls : List Lit) (v : ℕ) (o : Option Bool) → is_some o ≡ true → IsNamed ls v o → times v ls ≡ 1
 was_named ls v None e h = absurd (cc e)
 was_named ls v (Some b) e h = h.0
-
--- no literal
-pub named-none : (vars : ℕ) → AreNamed vars [] (replicate vars None)
-named-none vars = record {
-  size = length-replicate vars None;
-  each = λ v c. subst (IsNamed [] v) (sym (get_or-replicate vars (v - 1) None None (omega (arith, c.first, c.last)))) refl;
-}
 
 -- one that names a variable for the first time
 pub named-more : (vars : ℕ) (ls : List Lit) (values : List (Option Bool)) (l : Lit) → AreNamed vars ls values → IsCovered vars l.var → is_some (get_or values (l.var - 1) None) ≡ false →

@@ -32,9 +32,6 @@ use Rattle.proof_checker.specs.Endings.{EndsEarly, EndsWith, EndsWrong, IsPassed
 pub to-end : (xs : List ℕ) (k : ℕ) → take (length xs - k) (drop k xs) ≡ drop k xs
 to-end xs k = take_all (length xs - k) (drop k xs) (omega (arith, length-drop k xs))
 
-pub passed-first : (f : Formula) (bytes : List ℕ) → IsPassed f bytes bytes 0 place.Start
-passed-first f bytes = record { done = []; count = refl; reaches = refl; whole = refl; rest = refl; within = omega arith }
-
 pub passed-on : (f : Formula) (bytes left : List ℕ) (lines len : ℕ) (here there : Place) (line : Line) → IsPassed f bytes left lines here → Moves f here line there →
     whole_lines left ≡ Some line ∷ whole_lines (drop len left) → (cut left).rest ≡ (cut (drop len left)).rest → 0 < len → len ≤ length left → IsPassed f bytes (drop len left) (lines + 1) there
 passed-on f bytes left lines len here there line p moves whole rest some within = record {

@@ -1,3 +1,2 @@
 mod Stacks
 mod Values
-mod MadeRows

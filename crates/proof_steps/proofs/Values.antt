@@ -81,8 +81,8 @@ size_within (pos zero) n h = omega arith
 size_within (pos (suc m)) n h = omega (arith, ints, h.1)
 size_within (negsuc m) n h = omega (arith, ints, h.0)
 
-pub minus_sizes : (p : Point) (ts us : List Term) (v w : ℤ) → us ≡ minus_terms ts → v ≡ value_at p ts → w ≡ neg_ℤ v → sizes ts ≤ 2 ^ 119 → 2 ^ 120 < all_sizes us w → ⊥
-minus_sizes p ts us v w e f g h k =
+pub minus_sizes : (p : Point) (ts us : List Term) (v w : ℤ) → us ≡ minus_terms ts → v ≡ value_at p ts → w ≡ neg_ℤ v → sizes ts ≤ 2 ^ 119 → all_sizes us w ≤ 2 ^ 120
+minus_sizes p ts us v w e f g h =
     let a : unsigned_abs w ≤ sizes ts = rw (g, f) (size_within (value_at p ts) (sizes ts) (value_within p ts)) in
     let b : sizes us ≡ sizes ts = rw e (sizes-minus ts) in
     omega arith

@@ -2,7 +2,6 @@
 #![tactic(auto)]
 
 mod live;
-mod made;
 mod pol;
 mod refusal;
 mod solution;

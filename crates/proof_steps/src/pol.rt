@@ -9,7 +9,6 @@ ghost use Rattle.proof_rules.specs.Refusals.{and_then};
 ghost use Rattle.proof_rules.specs.Pol.{add_top, on_top, only_row, pol_row, push_live, push_made, run_step, run_steps};
 ghost use Rattle.proof_steps.specs.Steps.{HasFactor, Refuses, push_axiom, weaken_top};
 
-use crate::made::made;
 use crate::stack::Stack;
 use crate::{LiveRows, StepRefusal};
 use hrt_base::{Lit, NoMemory, RowNo, Term};
@@ -24,7 +23,7 @@ const MOST: i128 = 1 << 120;
 fn literal_row(alloc: Global, lit: Lit) -> Result<Row, NoMemory>
     ensures { IfOk result (λ row. row ≡ literal_row lit) }
 {
-    made(Row::from_terms(alloc, &[Term { coef: 1, lit }], 0))
+    Row::from_terms_that_fit(alloc, &[Term { coef: 1, lit }], 0)
 }
 
 /// Pushes a copy of a live row.

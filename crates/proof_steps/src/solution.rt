@@ -1,13 +1,13 @@
 // The rows of solutions.
-ghost use Rattle.std.specs.Prelude.{[], ◌≡◌, ◌≤◌, ◌<◌, ◌^◌, ◌-ℤ◌, pos, length, IfOk, IsErrOf, Ok};
+ghost use Rattle.std.specs.Prelude.{[], ◌≡◌, ◌≤◌, ◌<◌, ◌^◌, ◌-ℤ◌, pos, length, IfOk, OnOk};
 ghost use Rattle.std.specs.List.{All};
 ghost use Rattle.pb_rows.specs.Points.{IsCovered, Point, is_true_at, point_of, signed_share, value_at};
 ghost use Rattle.pb_rows.specs.Normal.{sizes};
+ghost use Rattle.pb_rows.specs.Rows.{Fits, add};
 ghost use Rattle.proof_rules.specs.States.{at_most_row, minus_terms};
 
-use crate::made::made;
 use hrt_base::{Lit, NoMemory, Term};
-use pb_rows::Row;
+use pb_rows::{Row, RowRefusal};
 use std::alloc::Global;
 
 /// Tells whether a literal is true at a point.
@@ -66,14 +66,26 @@ fn at_most_row(alloc: Global, objective: &[Term], value: i128) -> Result<Row, No
     ensures { IfOk result (λ row. row ≡ at_most_row objective.now value) }
 {
     let minus = minus_terms(alloc, objective)?;
-    made(Row::from_terms(alloc, &minus, -value))
+    Row::from_terms_that_fit(alloc, &minus, -value)
 }
 
 /// Makes the row 0 >= 1.
 fn one_more(alloc: Global) -> Result<Row, NoMemory>
     ensures { IfOk result (λ row. row ≡ record { terms = []; degree = 1 }) }
 {
-    made(Row::from_terms(alloc, &[], 1))
+    Row::from_terms_that_fit(alloc, &[], 1)
+}
+
+/// Adds a row where the sum fits.
+fn add_that_fits(row: &mut Row, alloc: Global, other: &Row) -> Result<(), NoMemory>
+    requires { Fits (add row.old other.now) }
+    ensures { OnOk result (row.new ≡ add row.old other.now) }
+{
+    match row.add(alloc, other) {
+        Ok(()) => Ok(()),
+        Err(RowRefusal::NoMemory) => Err(NoMemory),
+        Err(RowRefusal::TooBig) => unreachable!(),
+    }
 }
 
 /// Makes the row that the objective is smaller than a value that it has at some point. It is the row that the objective is
@@ -85,6 +97,6 @@ pub fn improvement_row(alloc: Global, objective: &[Term], value: i128) -> Result
 {
     let mut row = at_most_row(alloc, objective, value)?;
     let one = one_more(alloc)?;
-    made(row.add(alloc, &one))?;
+    add_that_fits(&mut row, alloc, &one)?;
     Ok(row)
 }

@@ -1,9 +1,12 @@
 -- Lists made from 0 to n - 1, and from 1 to n.
 use Rattle.std.proofs.Common.{◌≡◌, ℕ, zero, suc, ◌+◌, ◌<◌, ◌≤◌, Bool, cond, ◌&&◌, List, [], ◌∷◌, ◌++◌, length, map, get_or, Some, option_map, inl, inr, refl, sym, ap, ◌∙◌, arith, length-append}
+use Rattle.std.specs.List.Sorted.{IsStrictlyIncreasing}
 use Rattle.std.specs.List.{range_with_len, find, filter, position, position_from, All}
 use Rattle.std.proofs.lemmas.List.{length-map, map-append, get_or_append_left, get_or_push}
 use Rattle.std.proofs.lemmas.Iterator.Adapters.{position_from-zero}
 use Rattle.std.proofs.lemmas.List.Elements.{All-nil, All-push}
+use Rattle.std.proofs.lemmas.List.FromFn.{get_or-range_with_len}
+use Rattle.std.proofs.lemmas.List.Kept.{IsStrictlyIncreasing-filter}
 use Rattle.std.proofs.lemmas.Bool.{cases_lt, cases_Bool}
 use Rattle.rank_tables.specs.Numbers.{below, numbers_to}
 
@@ -76,3 +79,19 @@ find-filter first then (x ∷ xs) = elim (cases_Bool (first x)) [
 pub numbers_to-within : (n m : ℕ) → n ≤ m → All (λ p. (1 ≤ p) × (p ≤ m)) (numbers_to n)
 numbers_to-within zero m h = All-nil (λ p. (1 ≤ p) × (p ≤ m))
 numbers_to-within (suc n) m h = All-push (λ p. (1 ≤ p) × (p ≤ m)) (numbers_to n) (suc n) (numbers_to-within n m (omega arith)) (omega arith, h)
+
+-- ---- they rise
+
+place : (n i : ℕ) → i < n → get_or (numbers_to n) i 0 ≡ 1 + i
+place n i h = ap (λ xs. get_or xs i 0) (numbers_to-range n) ∙ get_or-range_with_len 1 n i 0 h
+
+rising-numbers_to : (n : ℕ) → IsStrictlyIncreasing (numbers_to n)
+rising-numbers_to n = λ k h.
+    let long = length-numbers_to n in
+    let here : get_or (numbers_to n) k 0 ≡ 1 + k = place n k (omega arith) in
+    let next : get_or (numbers_to n) (k + 1) 0 ≡ 1 + (k + 1) = place n (k + 1) (omega arith) in
+    omega arith
+
+-- and so do those that are chosen
+pub rising-chosen : (test : ℕ → Bool) (n : ℕ) → IsStrictlyIncreasing (filter test (numbers_to n))
+rising-chosen test n = IsStrictlyIncreasing-filter test (numbers_to n) (rising-numbers_to n)

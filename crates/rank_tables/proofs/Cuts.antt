@@ -2,7 +2,7 @@
 use Rattle.std.proofs.Common.{◌≡◌, ℕ, zero, suc, ◌+◌, ◌-◌, ◌<◌, ◌≤◌, List, [], ◌∷◌, ◌++◌, length, take, drop, get_or, refl, ap, arith, length-append, add-one}
 use Rattle.std.proofs.lemmas.List.{drop-append-le, take-append-le, take_all, drop_at}
 use Rattle.std.proofs.lemmas.Grind.{common_steps}
-use Rattle.rank_tables.specs.Groups.{until, cut, IsCut, IsSplit, tied_on}
+use Rattle.rank_tables.specs.Groups.{until, cut, IsCut, tied_on}
 
 pub length_cut : {A : Type 0} (xs : List A) (ss : List ℕ) → length (cut xs ss) ≡ length ss
 length_cut xs [] = refl
@@ -81,46 +81,3 @@ group_some_more t ss k h c = rw add-one (group_some t ss k h c)
 
 pub group_within_more : (t : ℕ) (ss : List ℕ) (k : ℕ) → k < length ss → IsCut t ss → until t (drop (k + 1) ss) ≤ t
 group_within_more t ss k h c = rw add-one (group_within t ss k h c)
-
--- rows, some of which may be empty
-
-IsSplit_within : (t : ℕ) (s : ℕ) (ss : List ℕ) → IsSplit t (s ∷ ss) → s ≤ t
-IsSplit_within t s [] c = c.0
-IsSplit_within t s (n ∷ ss) c = let h : n ≤ t = IsSplit_within t n ss c.1 in omega (arith, c.0)
-
-pub IsSplit_row : (t u : ℕ) (ss : List ℕ) → t ≤ u → IsSplit t ss → IsSplit u (ss ++ t ∷ [])
-IsSplit_row t u [] h c = (h, tt)
-IsSplit_row t u (s ∷ []) h c = (c.0, (h, tt))
-IsSplit_row t u (s ∷ n ∷ ss) h c = (c.0, IsSplit_row t u (n ∷ ss) h c.1)
-
-inner_row : {A : Type 0} (xs ys : List A) (s n : ℕ) → s ≤ n → n ≤ length xs →
-    take (n - s) (drop s (xs ++ ys)) ≡ take (n - s) (drop s xs)
-inner_row xs ys s n h k = grind (arith, common_steps, drop-append-le s xs ys, take-append-le (n - s) (drop s xs) ys)
-
-last_row : {A : Type 0} (xs ys : List A) → take (length (xs ++ ys) - length xs) (drop (length xs) (xs ++ ys)) ≡ ys
-last_row xs ys = rw (drop_at xs ys (length xs) refl) (take_all (length (xs ++ ys) - length xs) ys (omega (arith, length-append xs ys)))
-
-pub cut_row : {A : Type 0} (xs ys : List A) (ss : List ℕ) → IsSplit (length xs) ss →
-    cut (xs ++ ys) (ss ++ length xs ∷ []) ≡ cut xs ss ++ ys ∷ []
-cut_row xs ys [] c = ap (λ g. g ∷ []) (last_row xs ys)
-cut_row xs ys (s ∷ []) c = rw (inner_row xs ys s (length xs) c.0 (omega arith), last_row xs ys) refl
-cut_row xs ys (s ∷ n ∷ ss) c =
-    let inside : n ≤ length xs = IsSplit_within (length xs) n ss c.1 in
-    rw (inner_row xs ys s n c.0 inside, cut_row xs ys (n ∷ ss) c.1) refl
-
-row_some : (t : ℕ) (ss : List ℕ) (k : ℕ) → k < length ss → IsSplit t ss → get_or ss k 0 ≤ until t (drop (suc k) ss)
-row_some t [] k h c = absurd (omega arith)
-row_some t (s ∷ ss) zero h c = c.0
-row_some t (s ∷ ss) (suc k) h c = row_some t ss k (omega arith) c.1
-
-row_within : (t : ℕ) (ss : List ℕ) (k : ℕ) → k < length ss → IsSplit t ss → until t (drop (suc k) ss) ≤ t
-row_within t [] k h c = absurd (omega arith)
-row_within t (s ∷ []) zero h c = omega arith
-row_within t (s ∷ n ∷ ss) zero h c = IsSplit_within t n ss c.1
-row_within t (s ∷ ss) (suc k) h c = row_within t ss k (omega arith) c.1
-
-pub row_some_more : (t : ℕ) (ss : List ℕ) (k : ℕ) → k < length ss → IsSplit t ss → get_or ss k 0 ≤ until t (drop (k + 1) ss)
-row_some_more t ss k h c = rw add-one (row_some t ss k h c)
-
-pub row_within_more : (t : ℕ) (ss : List ℕ) (k : ℕ) → k < length ss → IsSplit t ss → until t (drop (k + 1) ss) ≤ t
-row_within_more t ss k h c = rw add-one (row_within t ss k h c)

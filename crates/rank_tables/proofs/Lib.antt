@@ -16,6 +16,7 @@ pub mod ListFacts
 pub mod Membership
 pub mod Numbers
 pub mod PairFacts
+pub mod PairNumbers
 pub mod Ranks
 pub mod SamePairs
 pub mod StablePairs

@@ -1,7 +1,7 @@
 -- Namings that aren't answered.
-use Rattle.std.proofs.Common.{◌≡◌, ℕ, zero, suc, ◌+◌, ◌-◌, ◌<◌, ◌≤◌, Bool, true, false, cond, not, ◌&&◌, List, [], ◌∷◌, length, get_or, drop, Option, Some, None, is_some, sum_by, count_by, refl, sym, ap, ◌∙◌, arith, add-one, inl, inr, length-append}
+use Rattle.std.proofs.Common.{◌≡◌, ℕ, zero, suc, ◌+◌, ◌-◌, ◌<◌, ◌≤◌, Bool, true, false, cond, not, ◌&&◌, List, [], ◌∷◌, length, Option, Some, None, is_some, sum_by, count_by, refl, sym, ap, ◌∙◌, arith, add-one, inl, inr, length-append}
 use Rattle.std.specs.List.{concat, filter, filter_map, flat_map, All, cons_option}
-use Rattle.std.proofs.lemmas.List.{length-map, at_drop_more}
+use Rattle.std.proofs.lemmas.List.{length-map}
 use Rattle.std.proofs.lemmas.List.Sums.{sum_by_push, sum_by-cons}
 use Rattle.std.proofs.lemmas.List.Elements.{All-head, All-tail}
 use Rattle.std.proofs.lemmas.Bool.{cases_Bool, and_parts}
@@ -13,11 +13,6 @@ use Rattle.rank_tables.proofs.Unique.{pair_no-acceptable}
 
 pub sum_by-below : (f : ℕ → ℕ) (n : ℕ) → sum_by f (below (n + 1)) ≡ sum_by f (below n) + f n
 sum_by-below f n = ap (λ k. sum_by f (below k)) (add-one n) ∙ sum_by_push f (below n) n
-
-pub concat-group : (groups : List (List ℕ)) (k : ℕ) → k < length groups →
-    length (concat (drop k groups)) ≡ length (get_or groups k []) + length (concat (drop (k + 1) groups))
-concat-group groups k h =
-    at_drop_more (λ (gs : List (List ℕ)). length (concat gs)) groups k [] h ∙ length-append (get_or groups k []) (concat (drop (k + 1) groups))
 
 count_by-cons : {A : Type 0} (p : A → Bool) (x : A) (xs : List A) → count_by p (x ∷ xs) ≡ cond (p x) 1 0 + count_by p xs
 count_by-cons p x xs = sum_by-cons (λ x. cond (p x) 1 0) x xs

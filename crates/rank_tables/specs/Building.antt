@@ -9,6 +9,7 @@ use Rattle.rank_tables.specs.declared.marks.Mark.{Mark}
 use Rattle.rank_tables.specs.Numbers.{below, numbers_to}
 use Rattle.rank_tables.specs.Instance.{Lists, rank_in}
 
+-- a value, and the number under which it is kept
 abbrev pub mark_of : ℕ → ℕ → Mark
 mark_of number value = record { number = number; value = value }
 
@@ -28,6 +29,7 @@ marked i marks value = fold (λ v (m : Mark). if m.number == i then m.value else
 abbrev pub cleared : ℕ → List Mark → ℕ → ℕ
 cleared i marks value = fold (λ v (m : Mark). if m.number == i then 0 else v) value marks
 
+-- rows as lists
 abbrev pub rows_of : {T A : Type 0} → List (Vec T A) → List (List T)
 rows_of rows = map (λ row. row.items) rows
 
@@ -46,7 +48,7 @@ hospital_groups hospitals h = unwrap_or (option_map (λ hospital. hospital.group
 abbrev pub naming : ℕ → ℕ → List Mark → List Mark
 naming h r list = map (λ (m : Mark). mark_of h m.value) (filter (λ (m : Mark). m.number == r) list)
 
--- the first n hospitals, those that name resident r, with the ranks that they give it
+-- those of the first n hospitals that name resident r, each with the rank that it gives it
 abbrev pub namings_of : List DraftHospital → ℕ → ℕ → List Mark
 namings_of hospitals n r = flat_map (λ h. naming h r (with_ranks (hospital_groups hospitals h))) (below n)
 

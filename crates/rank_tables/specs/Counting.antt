@@ -9,12 +9,15 @@ use Rattle.rank_tables.specs.declared.terms.Run.{Run}
 use Rattle.rank_tables.specs.declared.terms.Side.{Side}
 use Rattle.rank_tables.specs.declared.terms.Side.TheVariants.{Resident, Hospital}
 
+-- what stands past the end of the entries
 abbrev pub no_entry : PairEntry
 no_entry = record { resident = 0; hospital = 0; resident_rank = 0; hospital_rank = 0 }
 
+-- how many posts one of these hospitals has
 abbrev pub capacity_in : List DraftHospital → ℕ → ℕ
 capacity_in hospitals h = unwrap_or (option_map (λ hospital. hospital.capacity) (slice_get hospitals h)) 0
 
+-- the rank that a side gives a pair, and whether the pair counts: of a resident, where the hospital has a post
 abbrev pub ranked_of : Side → List DraftHospital → PairEntry → Ranked
 ranked_of Resident hospitals entry = record { rank = entry.resident_rank; counts = nat_lt 0 (capacity_in hospitals entry.hospital) }
 ranked_of Hospital hospitals entry = record { rank = entry.hospital_rank; counts = true }
@@ -23,6 +26,7 @@ ranked_of Hospital hospitals entry = record { rank = entry.hospital_rank; counts
 abbrev pub ranked_row : Side → List DraftHospital → List PairEntry → List PairNo → List Ranked
 ranked_row side hospitals entries row = map (λ (p : PairNo). ranked_of side hospitals (slice_index_or entries (p.0 - 1) no_entry)) row
 
+-- the number of one of these entries, from 1 on
 abbrev pub IsEntryNo : List PairEntry → PairNo → Type 0
 IsEntryNo entries p = (1 ≤ p.0) × (p.0 ≤ length entries)
 
@@ -34,7 +38,7 @@ counting xs = count_by (λ (x : Ranked). x.counts) xs
 abbrev pub as_high : List Ranked → ℕ
 as_high xs = sum_by (λ (x : Ranked). if x.counts then count_by (λ (y : Ranked). nat_le y.rank x.rank) xs else 0) xs
 
--- the ranks rise from this one on
+-- from this rank on, none is lower than the one before
 abbrev pub IsRising : ℕ → List Ranked → Type 0
 IsRising rank [] = Unit {0}
 IsRising rank (x ∷ xs) = (rank ≤ x.rank) × IsRising x.rank xs
@@ -46,5 +50,6 @@ pub record IsRun (run : Run) (xs : List Ranked) : Type 0 where
   pub within : list_all (λ (x : Ranked). nat_le x.rank run.rank) xs ≡ true
   pub terms : run.terms + counting xs ≡ as_high xs
 
+-- the counts of a run are small enough to be kept
 abbrev pub IsSmall : Run → Type 0
 IsSmall run = (run.tied ≤ run.listed) × (run.terms ≤ run.listed * run.listed)

@@ -11,6 +11,7 @@ pub record Lists : Type 0 where
   pub residents : List DraftResident
   pub hospitals : List DraftHospital
 
+-- the lists of a draft
 abbrev pub lists_of : Draft → Lists
 lists_of draft = record { residents = draft.residents.items; hospitals = draft.hospitals.items }
 
@@ -21,6 +22,7 @@ groups_of_resident lists r = unwrap_or (option_map (λ resident. resident.groups
 abbrev pub groups_of_hospital : Lists → ℕ → List (List ℕ)
 groups_of_hospital lists h = unwrap_or (option_map (λ hospital. hospital.groups) (slice_get lists.hospitals h)) []
 
+-- how many posts a hospital has
 abbrev pub capacity_of : Lists → ℕ → ℕ
 capacity_of lists h = unwrap_or (option_map (λ hospital. hospital.capacity) (slice_get lists.hospitals h)) 0
 
@@ -45,9 +47,11 @@ pairs_from lists r =
 abbrev pub pairs : Lists → List Pair
 pairs lists = flat_map (pairs_from lists) (below (length lists.residents))
 
+-- how many acceptable pairs there are
 abbrev pub pair_count : Lists → ℕ
 pair_count lists = length (pairs lists)
 
+-- what stands where there is no pair
 abbrev pub no_pair : Pair
 no_pair = record { resident = 0; hospital = 0 }
 

@@ -20,6 +20,7 @@ pub record IsOfHospital (lists : Lists) (h p : ℕ) : Type 0 where
   pub number : IsPairNo lists p
   pub hospital : (pair_at lists p).hospital ≡ h
 
+-- pairs by their numbers
 abbrev pub numbers_of : List PairNo → List ℕ
 numbers_of ps = map (λ (p : PairNo). p.0) ps
 

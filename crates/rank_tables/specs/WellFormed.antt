@@ -21,12 +21,14 @@ most_pairs = 100000
 abbrev pub most_terms : ℕ
 most_terms = 8000000
 
+-- the names of the residents, and of the hospitals, in the order of declaration
 abbrev pub names_of_residents : Lists → List (List ℕ)
 names_of_residents lists = map (λ r. r.name) lists.residents
 
 abbrev pub names_of_hospitals : Lists → List (List ℕ)
 names_of_hospitals lists = map (λ h. h.name) lists.hospitals
 
+-- the group is not empty
 abbrev pub is_group : List ℕ → Bool
 is_group [] = false
 is_group (x ∷ group) = true
@@ -35,6 +37,7 @@ is_group (x ∷ group) = true
 abbrev pub is_list : ℕ → List (List ℕ) → Bool
 is_list count groups = list_all is_group groups && list_all (λ x. nat_lt x count) (concat groups) && is_distinct (concat groups)
 
+-- Lists within the limits, whose names are names and differ on each side, and whose groups name the other side.
 pub record IsWellFormed (lists : Lists) : Type 0 where
   pub few_residents : length lists.residents ≤ most_residents
   pub few_hospitals : length lists.hospitals ≤ most_hospitals

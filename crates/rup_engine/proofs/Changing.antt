@@ -6,7 +6,7 @@ use Rattle.std.proofs.Math.ListN.{set}
 use Rattle.std.proofs.lemmas.Bool.{cases_Bool, cases_eq, cases_lt, eqb-true, ne_eqb, or_left, or_parts, or_right}
 use Rattle.std.proofs.lemmas.List.Folds.{list_any-append}
 use Rattle.std.proofs.lemmas.List.{get_or-set_other, get_or-set_same, get_or_past, length-set, length_push}
-use Rattle.std.proofs.lemmas.List.Elements.{All-from_get_or, All-push, All-weaker}
+use Rattle.std.proofs.lemmas.List.Elements.{All-from_get_or, All-weaker}
 use Rattle.hrt_base.specs.declared.literal.Lit.{Lit}
 use Rattle.pb_rows.specs.Terms.{coef_sum}
 use Rattle.pb_rows.specs.Closure.{among, none, nonfalse_sum}
@@ -205,15 +205,6 @@ sum-more [] zero = refl
 sum-more [] (suc j) = refl
 sum-more (s ∷ sums) zero = refl
 sum-more (s ∷ sums) (suc j) = sum-more sums j
-
-pub notes-none : (k : ℕ) (tight : List ℕ) → NotesAtMost k tight tight
-notes-none k tight = record { others = λ j out. out; within = λ n h a. a }
-
-pub notes-one : (k : ℕ) (tight : List ℕ) → NotesAtMost k tight (tight ++ k ∷ [])
-notes-one k tight = record {
-  others = λ j out. (or_parts (is_one_of j tight) (is_one_of j (k ∷ [])) (sym (list_any-append (λ (i : ℕ). i == j) tight (k ∷ [])) ∙ out)).0;
-  within = λ n h a. All-push (λ (j : ℕ). j < n) tight k a h;
-}
 
 pub noted : (k : ℕ) (tight : List ℕ) → is_one_of k (tight ++ k ∷ []) ≡ true
 noted k tight = list_any-append (λ (i : ℕ). i == k) tight (k ∷ []) ∙ or_right (is_one_of k tight) (is_one_of k (k ∷ [])) (or_left (k == k) false (eq-eqb k k refl))

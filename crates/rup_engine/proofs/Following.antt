@@ -1,5 +1,5 @@
 -- What follows from rows, one step at a time.
-use Rattle.std.proofs.Common.{◌≡◌, ◌∙◌, ◌≤◌, ◌<◌, ◌+◌, ℕ, suc, zero, Bool, true, false, if◌then◌else◌, List, [], ◌∷◌, ◌++◌, length, take, get_or, refl, sym, ap, subst, arith, inl, inr, append_assoc, append-nil}
+use Rattle.std.proofs.Common.{◌≡◌, ◌∙◌, ◌≤◌, ◌<◌, ◌+◌, ℕ, suc, zero, Bool, true, false, if◌then◌else◌, List, [], ◌∷◌, ◌++◌, length, take, get_or, refl, sym, ap, subst, arith, inl, inr, append_assoc}
 use Rattle.std.specs.List.{All, Contains}
 use Rattle.std.proofs.lemmas.Bool.{cases_Bool, false_from_ne_true, or_left}
 use Rattle.std.proofs.lemmas.List.{get_or_default}
@@ -67,14 +67,8 @@ follows-open rows given ls r sum x c d below o f = record {
 
 -- ---- growing
 
-pub grows-none : (ls : List Lit) → Grows ls ls
-grows-none ls = record { more = []; is = sym (append-nil ls) }
-
 pub grows-more : (a b c : List Lit) → Grows a b → Grows b c → Grows a c
 grows-more a b c f g = record { more = f.more ++ g.more; is = g.is ∙ ap (λ x. x ++ g.more) f.is ∙ append_assoc a f.more g.more }
-
-pub grows-one : (ls : List Lit) (l : Lit) → Grows ls (ls ++ l ∷ [])
-grows-one ls l = record { more = l ∷ []; is = refl }
 
 pub grows-within : (a b : List Lit) → Grows a b → Within (among a) (among b)
 grows-within a b g l h = ap (λ x. among x l) g.is ∙ kept a g.more l h
@@ -92,13 +86,6 @@ pub record AreTaken (terms : List Term) (sum degree i : ℕ) (old new : List Lit
   pub grows : Grows old new
   pub settled : All (IsSettledAt (among new) sum degree) (take i terms)
   pub sound : AddsFollowing (record { terms = terms; degree = degree }) sum old new false
-
-pub none-taken : (terms : List Term) (sum degree : ℕ) (ls : List Lit) → AreTaken terms sum degree 0 ls ls
-none-taken terms sum degree ls = record {
-  grows = grows-none ls;
-  settled = λ k d h. absurd (omega arith);
-  sound = record { follows = λ rows given c below f. f };
-}
 
 pub one-taken : (terms : List Term) (sum degree i : ℕ) (d : Term) (old mid new : List Lit) → i < length terms → AreTaken terms sum degree i old mid
     → TakesTerm sum degree (get_or terms i d) mid new → AreTaken terms sum degree (i + 1) old new

@@ -1,6 +1,6 @@
 -- The numbers of given pairs.
-use Rattle.std.proofs.Common.{◌≡◌, ℕ, zero, suc, ◌+◌, ◌<◌, ◌≤◌, true, ◌&&◌, ◌==◌, nat_le, List, [], ◌∷◌, ◌++◌, length, get_or, take, drop, refl, ap, ◌∙◌, arith, length-take}
-use Rattle.std.proofs.lemmas.List.{take_more, drop_more, take_all, length-map, map-append}
+use Rattle.std.proofs.Common.{◌≡◌, ℕ, zero, suc, ◌+◌, ◌<◌, ◌≤◌, true, ◌&&◌, ◌==◌, nat_le, List, [], ◌∷◌, ◌++◌, length, get_or, take, refl, ap, ◌∙◌, arith, length-take}
+use Rattle.std.proofs.lemmas.List.{take_more, take_all, length-map, map-append}
 use Rattle.std.proofs.lemmas.Bool.{and_parts, or_left, or_right, eq-eqb, leb-true}
 use Rattle.hrt_base.specs.declared.numbered.PairNo.{PairNo}
 use Rattle.rank_tables.specs.Numbers.{is_in}
@@ -25,10 +25,6 @@ pair_number_at lists pairs i d h l = pair_number lists (numbers_of pairs) (get_o
 pub numbers_more : (pairs : List PairNo) (i : ℕ) (d : PairNo) → i < length pairs →
     numbers_of (take (i + 1) pairs) ≡ numbers_of (take i pairs) ++ (get_or pairs i d).0 ∷ []
 numbers_more pairs i d l = ap numbers_of (take_more pairs i d l) ∙ map-append (λ (p : PairNo). p.0) (take i pairs) (get_or pairs i d ∷ [])
-
-pub numbers_less : (pairs : List PairNo) (i : ℕ) (d : PairNo) → i < length pairs →
-    numbers_of (drop i pairs) ≡ (get_or pairs i d).0 ∷ numbers_of (drop (i + 1) pairs)
-numbers_less pairs i d l = ap numbers_of (drop_more pairs i d l)
 
 pub numbers_few : (pairs : List PairNo) (i : ℕ) → length (numbers_of (take i pairs)) ≤ i
 numbers_few pairs i = omega (arith, length-map (take i pairs) (λ (p : PairNo). p.0), length-take i pairs)

@@ -1,18 +1,18 @@
 -- What the tables hold, and how they change by a pair.
-use Rattle.std.proofs.Common.{◌≡◌, ℕ, ◌+◌, ◌<◌, ◌≤◌, max, Bool, true, false, cond, not, ◌&&◌, ◌||◌, ◌==◌, nat_lt, if◌then◌else◌, List, [], ◌∷◌, ◌++◌, length, get_or, set, take, drop, count_by, inl, inr, refl, sym, ap, ap₂, ◌∙◌, subst, arith, get_or-set_same, get_or-set_other}
+use Rattle.std.proofs.Common.{◌≡◌, ℕ, ◌+◌, ◌<◌, ◌≤◌, max, Bool, true, false, cond, not, ◌&&◌, ◌||◌, ◌==◌, nat_lt, if◌then◌else◌, List, [], ◌∷◌, ◌++◌, length, get_or, set, take, count_by, inl, inr, refl, sym, ap, ap₂, ◌∙◌, subst, arith, get_or-set_same, get_or-set_other}
 use Rattle.std.specs.List.{list_any, list_all}
 use Rattle.std.proofs.lemmas.List.{length-set, get_or_past}
 use Rattle.std.proofs.lemmas.List.Sums.{sum_by-cons}
-use Rattle.std.proofs.lemmas.Bool.{true≢false, cases_lt, cases_Bool, cond-true, cond-false, eqb-true, eqb-false, or_parts, or_from, le-ltb}
+use Rattle.std.proofs.lemmas.Bool.{true≢false, cases_lt, cases_Bool, cond-true, cond-false, eqb-true, eqb-false, or_parts, le-ltb}
 use Rattle.std.proofs.lemmas.Bool.Decides.{nat_tests}
 use Rattle.std.proofs.lemmas.List.{get_or_read}
 use Rattle.std.proofs.lemmas.List.Sums.{count_by-le-length}
 use Rattle.hrt_base.specs.declared.numbered.PairNo.{PairNo}
 use Rattle.rank_tables.specs.Tables.{numbers_of}
 use Rattle.rank_tables.proofs.Numbers.{list_any-count}
-use Rattle.stability_audit.proofs.Pairs.{numbers_more, numbers_less, numbers_few}
+use Rattle.stability_audit.proofs.Pairs.{numbers_more, numbers_few}
 use Rattle.stability_audit.specs.declared.tally.Tally.{Tally}
-use Rattle.stability_audit.specs.Tallies.{no_pair, one_more, wants, tally_of, IsTallied, IsClear}
+use Rattle.stability_audit.specs.Tallies.{no_pair, one_more, wants, tally_of, IsTallied}
 
 -- ---- a tally
 
@@ -153,35 +153,3 @@ clear_but_all owner rank m count table h = record {
     | inr past ↦ get_or_past table k no_pair (omega (arith, h.size))
   ];
 }
-
-pub clear_but_less : (owner : ℕ → ℕ) (q : ℕ) (m : List ℕ) (count : ℕ) (table : List Tally) → owner q < count →
-    IsClearBut owner (q ∷ m) count table → IsClearBut owner m count (set table (owner q) no_pair)
-clear_but_less owner q m count table l h = record {
-  size = length-set table (owner q) no_pair ∙ h.size;
-  each = λ k none. elim (cases_Bool (owner q == k)) [
-    | inl here ↦
-        let within : owner q < length table = omega (arith, h.size) in
-        ap (λ j. get_or (set table (owner q) no_pair) j no_pair) (sym (eqb-true (owner q) k here)) ∙ get_or-set_same table (owner q) no_pair no_pair within
-    | inr other ↦
-        get_or-set_other table (owner q) k no_pair no_pair (λ is. eqb-false (owner q) k other (sym is))
-        ∙ h.each k (or_from (owner q == k) (list_any (λ p. owner p == k) m) other none)
-  ];
-}
-
-pub clear_but_rest : (owner : ℕ → ℕ) (pairs : List PairNo) (i : ℕ) (d : PairNo) (count : ℕ) (table : List Tally) (k : ℕ) →
-    IsClearBut owner (numbers_of (drop i pairs)) count table → i < length pairs → k < count → k ≡ owner (get_or pairs i d).0 →
-    IsClearBut owner (numbers_of (drop (i + 1) pairs)) count (set table k no_pair)
-clear_but_rest owner pairs i d count table k h l less e =
-    let q = (get_or pairs i d).0 in
-    subst (λ (j : ℕ). IsClearBut owner (numbers_of (drop (i + 1) pairs)) count (set table j no_pair)) (sym e)
-    (clear_but_less owner q (numbers_of (drop (i + 1) pairs)) count table (subst (λ (j : ℕ). j < count) e less)
-    (subst (λ (m : List ℕ). IsClearBut owner m count table) (numbers_less pairs i d l) h))
-
-pub tallied_none : (owner rank : ℕ → ℕ) (count : ℕ) (table : List Tally) → IsClearBut owner [] count table → IsTallied owner rank [] count table
-tallied_none owner rank count table h = record { size = h.size; each = λ k less. h.each k refl }
-
-pub tallied_clear : (owner rank : ℕ → ℕ) (table : List Tally) → IsClear table → IsTallied owner rank [] (length table) table
-tallied_clear owner rank table h = record { size = refl; each = λ k less. h k }
-
-pub clear_tallied : (owner rank : ℕ → ℕ) (count : ℕ) (table : List Tally) → IsTallied owner rank [] count table → IsClear table
-clear_tallied owner rank count table h = λ k. (clear_but_all owner rank [] count table h).each k refl

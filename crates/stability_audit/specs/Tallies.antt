@@ -3,6 +3,7 @@ use Rattle.std.specs.Prelude.{◌≡◌, ℕ, ◌+◌, ◌<◌, Bool, ◌&&◌, 
 use Rattle.rank_tables.specs.Instance.{Lists, pair_at, capacity_of, rank_by_resident, rank_by_hospital}
 use Rattle.stability_audit.specs.declared.tally.Tally.{Tally}
 
+-- what no pair makes of anyone
 abbrev pub no_pair : Tally
 no_pair = record { count = 0; worst = 0 }
 

@@ -12,6 +12,7 @@ pub record Sizes : Type 0 where
   pub residents : ℕ
   pub hospitals : ℕ
 
+-- how many residents and hospitals there are
 abbrev pub sizes_of : Lists → Sizes
 sizes_of lists = record { residents = length lists.residents; hospitals = length lists.hospitals }
 

@@ -1,12 +1,11 @@
 -- The rows of the model by their coefficients.
-use Rattle.std.proofs.Common.{◌≡◌, ℕ, zero, suc, ◌+◌, ◌-◌, ◌<◌, ◌≤◌, Bool, true, false, not, ◌&&◌, ◌||◌, ◌==◌, nat_lt, nat_le, List, [], ◌∷◌, map, filter, if◌then◌else◌, ℤ, pos, negsuc, neg_ℤ, ◌+ℤ◌, ◌-ℤ◌, refl, sym, ap, ap₂, ◌∙◌, inl, inr, subst, arith}
-use Rattle.std.specs.List.{list_all}
+use Rattle.std.proofs.Common.{◌≡◌, ℕ, zero, suc, ◌-◌, ◌≤◌, Bool, true, false, not, ◌&&◌, ◌||◌, ◌==◌, nat_lt, nat_le, List, [], ◌∷◌, map, filter, if◌then◌else◌, ℤ, pos, neg_ℤ, ◌+ℤ◌, ◌-ℤ◌, refl, sym, ap, ◌∙◌, arith}
 use Rattle.std.proofs.lemmas.Int.{ints}
-use Rattle.std.proofs.lemmas.Bool.{and_parts, true≢false, cases_Bool, cases_eq, eq-eqb, eqb-true, leb-true, ltb-false, ne_eqb, not-true, or_left, or_right}
+use Rattle.std.proofs.lemmas.Bool.{and_parts, eq-eqb, eqb-true, leb-true, ltb-false, not-true, or_left, or_right}
 use Rattle.hrt_base.specs.declared.literal.Term.{Term}
 use Rattle.pb_rows.specs.Normal.{negative_part, net, normal_form, on_opposites, or_zero, var_bound}
 use Rattle.pb_rows.specs.Rows.{in_normal_form}
-use Rattle.pb_rows.proofs.Coefs.{coef_row, coef_terms-same, minus_sum, normal_form-coefs, sum_below, sum_below-same}
+use Rattle.pb_rows.proofs.Coefs.{coef_row, coef_terms-same, minus_sum, normal_form-coefs}
 use Rattle.rank_tables.specs.Numbers.{is_distinct, is_in, numbers_to}
 use Rattle.rank_tables.specs.Instance.{Lists, capacity_of, pair_at, pair_count}
 use Rattle.rank_tables.proofs.Numbers.{distinct-filter, distinct-numbers_to, is_in-filter, is_in-numbers_to}

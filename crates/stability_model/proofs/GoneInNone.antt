@@ -8,7 +8,7 @@ use Rattle.rank_tables.specs.Instance.{Lists, pair_count, pair_at, rank_by_resid
 use Rattle.rank_tables.specs.Stability.{uses_of_resident, uses_of_hospital, is_matching, resident_wants, hospital_wants, blocks, is_weakly_stable}
 use Rattle.rank_tables.specs.Instance.{pairs_of_resident, pairs_of_hospital}
 use Rattle.stability_model.specs.Gone.{Pairs, is_sure, rule_a, has_only, rule_b, IsClosed, Gone}
-use Rattle.stability_model.proofs.PairNumbers.{is_pair}
+use Rattle.rank_tables.proofs.PairNumbers.{is_pair}
 use Rattle.rank_tables.proofs.Numbers.{all_at, all_from, is_in-filter, is_in-numbers_to, distinct-numbers_to, list_any-count, kinds_within, element}
 use Rattle.rank_tables.proofs.Membership.{matching_parts}
 use Rattle.stability_model.proofs.Counts.{count_by_le, some_counted, only_one, count_in_filter, count_in_list, count_split, any_at}

@@ -8,7 +8,7 @@ use Rattle.rank_tables.specs.Instance.{Lists, pair_count, pair_at, rank_by_resid
 use Rattle.rank_tables.specs.Instance.{pairs_of_resident, pairs_of_hospital}
 use Rattle.rank_tables.specs.Tables.{IsPairNo}
 use Rattle.stability_model.specs.Gone.{Pairs, is_sure, rule_a, has_only, rule_b, IsClosed}
-use Rattle.stability_model.proofs.PairNumbers.{is_pair, pair_listed, pair_of_resident}
+use Rattle.rank_tables.proofs.PairNumbers.{is_pair, pair_listed, pair_of_resident}
 use Rattle.rank_tables.proofs.Numbers.{is_in-filter, element}
 use Rattle.stability_model.proofs.Counts.{any_at}
 

@@ -1,17 +1,16 @@
 -- Lists of rows that grow at their ends, and where a row stands in them.
-use Rattle.std.proofs.Common.{◌≡◌, ℕ, zero, suc, ◌+◌, ◌-◌, ◌<◌, ◌≤◌, Bool, true, false, cond, if◌then◌else◌, List, [], ◌∷◌, ◌++◌, length, map, filter, take, get_or, count_by, Option, Some, subst, inl, inr, refl, sym, ap, ◌∙◌, arith, add-one, append_assoc}
+use Rattle.std.proofs.Common.{◌≡◌, ℕ, zero, suc, ◌+◌, ◌-◌, ◌<◌, ◌≤◌, Bool, true, false, cond, if◌then◌else◌, List, [], ◌∷◌, ◌++◌, length, map, filter, get_or, count_by, Option, Some, subst, inl, inr, refl, sym, ap, ◌∙◌, arith, add-one, append_assoc}
 use Rattle.std.specs.Prelude.{slice_get}
-use Rattle.std.proofs.lemmas.List.{get_or-append-add, get_or-map, get_or_append_left, get_or_push, length-append, length-map, map-append, map_more, map_push}
+use Rattle.std.proofs.lemmas.List.{get_or-append-add, get_or-map, get_or_append_left, get_or_push, length-append, length-map, map-append, map_push}
 use Rattle.std.proofs.lemmas.List.Elements.{filter-append}
 use Rattle.std.proofs.lemmas.List.Sums.{length-filter, count_by-le-length}
 use Rattle.std.proofs.lemmas.Bool.{cases_lt}
 use Rattle.std.proofs.lemmas.Option.{slice_get-get_or}
-use Rattle.hrt_base.specs.declared.numbered.PairNo.{PairNo}
 use Rattle.pb_rows.specs.Terms.{PlainRow, Written}
 use Rattle.pb_rows.specs.Rows.{in_normal_form}
 use Rattle.rank_tables.specs.Numbers.{below, numbers_to}
 use Rattle.rank_tables.specs.Instance.{Lists, pair_count}
-use Rattle.rank_tables.specs.Tables.{IsPairNo, numbers_of}
+use Rattle.rank_tables.specs.Tables.{IsPairNo}
 use Rattle.stability_model.specs.Model.{IsRow, hospital_rows, pair_row, pair_row_no, resident_rows, rows, written_rows}
 use Rattle.stability_model.specs.Making.{IsModelOf}
 
@@ -25,9 +24,6 @@ length-numbers_to (suc n) = omega (arith, length-append (numbers_to n) (suc n �
 
 pub map_below : {A : Type 0} (f : ℕ → A) (k : ℕ) → map f (below (k + 1)) ≡ map f (below k) ++ f k ∷ []
 map_below f k = rw add-one (map_push f (below k) k)
-
-pub map_numbers : {A : Type 0} (f : ℕ → A) (k : ℕ) → map f (numbers_to (k + 1)) ≡ map f (numbers_to k) ++ f (k + 1) ∷ []
-map_numbers f k = rw add-one (map_push f (numbers_to k) (suc k))
 
 -- ---- rows of residents and of hospitals
 
@@ -64,13 +60,6 @@ pub rows_few : (before : List Written) (f : ℕ → Written) (has : ℕ → Bool
 rows_few before f has k = omega (arith, rows_counted before f has k, count_by-le-length has (below k), length-below k)
 
 -- ---- rows of pairs
-
-pub pair_rows_more : (lists : Lists) (before : List PlainRow) (k : ℕ) →
-    before ++ map in_normal_form (map (pair_row lists) (numbers_to (k + 1))) ≡ (before ++ map in_normal_form (map (pair_row lists) (numbers_to k))) ++ in_normal_form (pair_row lists (k + 1)) ∷ []
-pair_rows_more lists before k =
-    ap (λ rs. before ++ map in_normal_form rs) (map_numbers (pair_row lists) k)
-    ∙ ap (λ (rs : List PlainRow). before ++ rs) (map_push in_normal_form (map (pair_row lists) (numbers_to k)) (pair_row lists (k + 1)))
-    ∙ sym (append_assoc before (map in_normal_form (map (pair_row lists) (numbers_to k))) (in_normal_form (pair_row lists (k + 1)) ∷ []))
 
 pub rows_count : (lists : Lists) → length (rows lists) ≡ length (resident_rows lists) + length (hospital_rows lists) + pair_count lists
 rows_count lists =
@@ -115,15 +104,6 @@ is_pair_row lists p h =
     ∙ get_or-append-add (map in_normal_form before) (map in_normal_form ps) (p - 1) d
     ∙ get_or-map in_normal_form ps (p - 1) (pair_row lists p) d (omega (arith, length-map (numbers_to (pair_count lists)) (pair_row lists), length-numbers_to (pair_count lists), h.0, h.1))
     ∙ ap in_normal_form (at_numbers (pair_row lists) (pair_count lists) (p - 1) (pair_row lists p) (omega (arith, h.0, h.1)) ∙ ap (pair_row lists) (omega (arith, h.0))))
-
--- ---- terms, pair by pair
-
-pub terms_more : {A : Type 0} (f : ℕ → A) (ps : List PairNo) (i : ℕ) (d : PairNo) → i < length ps → map f (numbers_of (take (i + 1) ps)) ≡ map f (numbers_of (take i ps)) ++ f (get_or ps i d).0 ∷ []
-terms_more f ps i d h = ap (map f) (map_more (λ (p : PairNo). p.0) ps i d h) ∙ map_push f (numbers_of (take i ps)) (get_or ps i d).0
-
-pub terms_after : {A : Type 0} (f : ℕ → A) (before : List A) (ps : List PairNo) (i : ℕ) (d : PairNo) → i < length ps →
-    before ++ map f (numbers_of (take (i + 1) ps)) ≡ (before ++ map f (numbers_of (take i ps))) ++ f (get_or ps i d).0 ∷ []
-terms_after f before ps i d h = ap (λ ts. before ++ ts) (terms_more f ps i d h) ∙ sym (append_assoc before (map f (numbers_of (take i ps))) (f (get_or ps i d).0 ∷ []))
 
 -- ---- what a model keeps
 

@@ -7,8 +7,8 @@ pub mod Growing
 pub mod Places
 pub mod TermCount
 mod PairTerms
+mod RowSizes
 pub mod Counts
-pub mod PairNumbers
 pub mod GoneInNone
 pub mod GoneSteps
 pub mod GoneLocal

@@ -1,9 +1,9 @@
 -- Buckets after a push.
-use Rattle.std.proofs.Common.{◌≡◌, ℕ, zero, suc, ◌+◌, ◌<◌, ◌≤◌, ◌==◌, if◌then◌else◌, List, [], ◌∷◌, ◌++◌, length, get_or, set, filter, cond, Bool, true, false, add-one, inl, inr, refl, sym, ap, ◌∙◌, subst, arith, eq-eqb}
-use Rattle.std.proofs.lemmas.List.{append-nil, length-map, map-set, map-append, get_or-map, get_or-set_same, get_or-set_other, get_or_append_left, get_or_push, get_or_past, length_push}
-use Rattle.std.proofs.lemmas.Bool.{cases_eq, cases_lt, ne_eqb}
+use Rattle.std.proofs.Common.{◌≡◌, ℕ, zero, suc, ◌<◌, ◌≤◌, ◌==◌, if◌then◌else◌, List, [], ◌∷◌, ◌++◌, length, get_or, set, filter, Bool, inl, inr, sym, ap, ◌∙◌, subst, arith, eq-eqb}
+use Rattle.std.proofs.lemmas.List.{length-map, map-set, get_or-map, get_or-set_same, get_or-set_other}
+use Rattle.std.proofs.lemmas.Bool.{cases_eq, ne_eqb}
 use Rattle.std.specs.List.{All}
-use Rattle.std.proofs.lemmas.List.Elements.{All-filter, All-nil, All-push, filter-append}
+use Rattle.std.proofs.lemmas.List.Elements.{All-filter, All-nil, All-push}
 use Rattle.std.specs.declared.vec.Vec.{Vec}
 use Rattle.hrt_base.specs.declared.numbered.PairNo.{PairNo}
 use Rattle.rank_tables.specs.Numbers.{numbers_to}
@@ -28,34 +28,6 @@ row_pushed {T} rows i v w x h read made r =
       | inr other ↦
           ap (λ (xs : List (List T)). get_or xs r []) written ∙ rw (ne_eqb r i other) (get_or-set_other (items_of rows) i r v.items [] other)
     ]
-
-pub bucket_at-empty_more : {T A : Type 0} (rows : List (Vec T A)) (v : Vec T A) → v.items ≡ [] → ((r : ℕ) → bucket_at rows r ≡ []) →
-    (r : ℕ) → bucket_at (rows ++ v ∷ []) r ≡ []
-bucket_at-empty_more {T} rows v none empty r =
-    ap (λ (xs : List (List T)). get_or xs r []) (map-append (λ row. row.items) rows (v ∷ [])) ∙ elim (cases_lt r (length (items_of rows))) [
-      | inl before ↦ rw get_or_append_left (empty r)
-      | inr past ↦ elim (cases_eq (length (items_of rows)) r) [
-        | inl here ↦ get_or_push (items_of rows) v.items [] r here ∙ none
-        | inr after ↦ get_or_past (items_of rows ++ v.items ∷ []) r [] (omega (arith, length_push (items_of rows) v.items))
-      ]
-    ]
-
--- the pairs of a hospital up to one more pair
-pub more_of_hospital : (lists : Lists) (h k : ℕ) → filter (λ p. (pair_at lists p).hospital == h) (numbers_to (k + 1))
-    ≡ (if h == (pair_at lists (k + 1)).hospital then filter (λ p. (pair_at lists p).hospital == h) (numbers_to k) ++ (k + 1) ∷ [] else filter (λ p. (pair_at lists p).hospital == h) (numbers_to k))
-more_of_hospital lists h k =
-    rw add-one (filter-append (λ p. (pair_at lists p).hospital == h) (numbers_to k) (suc k ∷ []) ∙ last ((pair_at lists (suc k)).hospital) h)
-  where
-    last : (g h : ℕ) → filter (λ p. (pair_at lists p).hospital == h) (numbers_to k) ++ cond (g == h) (suc k ∷ []) []
-        ≡ (if h == g then filter (λ p. (pair_at lists p).hospital == h) (numbers_to k) ++ suc k ∷ [] else filter (λ p. (pair_at lists p).hospital == h) (numbers_to k))
-    last g h = elim (cases_eq h g) [
-      | inl e ↦ rw (eq-eqb h g e, eq-eqb g h (sym e)) refl
-      | inr e ↦ rw (ne_eqb h g e, ne_eqb g h (λ f. e (sym f))) (append-nil (filter (λ p. (pair_at lists p).hospital == h) (numbers_to k)))
-    ]
-
-pub pushed_numbers : (b : Bool) (old new : List PairNo) (p : PairNo) → new ≡ (if b then old ++ p ∷ [] else old) → numbers_of new ≡ (if b then numbers_of old ++ p.0 ∷ [] else numbers_of old)
-pushed_numbers true old new p e = ap numbers_of e ∙ map-append (λ (q : PairNo). q.0) old (p ∷ [])
-pushed_numbers false old new p e = ap numbers_of e
 
 -- each pair of a bucket is one
 numbers-within : (n m : ℕ) → n ≤ m → All (λ p. (1 ≤ p) × (p ≤ m)) (numbers_to n)

@@ -14,15 +14,12 @@ use pb_rows::Row;
 use rank_tables::Instance;
 use std::alloc::Global;
 
-// The row that at most so many of the pairs are taken. It is never too big: there are at most 100,000 pairs.
+// The row that at most so many of the pairs are taken.
 fn at_most_row(alloc: Global, pairs: &[PairNo], most: u32) -> Result<Row, NoMemory>
     ensures { IfOk result (λ row. row ≡ in_normal_form (at_most most (numbers_of pairs.now))) }
 {
     let terms = minus_terms(alloc, pairs)?;
-    match Row::from_terms(alloc, &terms, -i128::from(most)) {
-        Ok(row) => Ok(row),
-        Err(_) => Err(NoMemory),
-    }
+    Row::from_terms_that_fit(alloc, &terms, -i128::from(most))
 }
 
 // Appends the row that at most so many of the pairs are taken, unless there are none, and gives its number.
@@ -84,7 +81,7 @@ pub fn push_hospital_rows(
     Ok(numbers)
 }
 
-// The row of a pair, given the pairs of its hospital. It is never too big: a hospital has at most 20,000 posts.
+// The row of a pair, given the pairs of its hospital.
 fn pair_row(alloc: Global, inst: &Instance, p: PairNo, pairs: &[PairNo]) -> Result<Row, NoMemory>
     requires p { IsPairNo inst.now p.0 }
     requires pairs { numbers_of pairs.now ≡ pairs_of_hospital inst.now (pair_at inst.now p.0).hospital }
@@ -92,10 +89,7 @@ fn pair_row(alloc: Global, inst: &Instance, p: PairNo, pairs: &[PairNo]) -> Resu
 {
     let terms = pair_terms(alloc, inst, p, pairs)?;
     let capacity = inst.capacity(inst.hospital_of(p));
-    match Row::from_terms(alloc, &terms, i128::from(capacity)) {
-        Ok(row) => Ok(row),
-        Err(_) => Err(NoMemory),
-    }
+    Row::from_terms_that_fit(alloc, &terms, i128::from(capacity))
 }
 
 // The rows of the pairs after the others.

@@ -20,7 +20,7 @@ returns-in_err-write_pair-clause-failed g c =
     search rules
 
 pub returns-in_err-write_pair-clause-read_back : goal.returns-in_err-write_pair-clause-read_back
-returns-in_err-write_pair-clause-read_back g c = spelled_back c.args.inst.now c.args.pairs.now c.requires.in_range c.requires.distinct
+returns-in_err-write_pair-clause-read_back g c = spelled_back c.args.inst.now c.args.pairs.now c.requires.in_range c.requires.distinct c.residents-count.ensures.well_formed
 
 pub returns-clause-sent : goal.returns-clause-sent
 returns-clause-sent g c =
@@ -29,4 +29,4 @@ returns-clause-sent g c =
     sent_as _ _ _ _ _ _ (ap (flat_map (line_of lists)) all ∙ lines_of lists c.args.pairs.now) c.loop-pair.invariant
 
 pub returns-clause-read_back : goal.returns-clause-read_back
-returns-clause-read_back g c = spelled_back c.args.inst.now c.args.pairs.now c.requires.in_range c.requires.distinct
+returns-clause-read_back g c = spelled_back c.args.inst.now c.args.pairs.now c.requires.in_range c.requires.distinct c.residents-count.ensures.well_formed

@@ -6,9 +6,10 @@ use Rattle.rank_tables.specs.Instance.{Lists, pair_at}
 use Rattle.proof_lines.specs.declared.line.Line.TheVariants.{Del}
 use Rattle.proof_rules.specs.States.{deleted}
 use Rattle.derivation.specs.Steps.{IsWritable, Takes}
-use Rattle.pair_reduction.proofs.Deleting.{can_forget, deletes_alone, deletes_with, unit_few}
+use Rattle.pair_reduction.proofs.Deleting.{can_forget, deletes_alone, deletes_with, goes_so_far, goes_with, unit_few}
 use Rattle.pair_reduction.proofs.Forgets.{del_writable, forget_asks, numbers_within, some_there}
 use Rattle.pair_reduction.proofs.Implied.{implied_by_b}
+use Rattle.pair_reduction.proofs.Offering.{goes_further, goes_same}
 use Rattle.pair_reduction.proofs.deletions.delete_by_rule_b.Goals as goal
 
 pub delete-requires-clause-implied : goal.delete-requires-clause-implied
@@ -39,5 +40,23 @@ forget-requires-clause-live c =
 pub returns-clause-deletes : goal.returns-clause-deletes
 returns-clause-deletes c =
     deletes_with c.args.p.0 c.args.deriv.now c.offers.new.deriv c.delete.new.deriv c.args.gone.now c.delete.new.gone c.in_ok-ids.ids.items c.requires.ready c.next-first.ensures.in_order c.in_ok-ids.ensures.adds c.in_ok-ids.ensures.made
+    c.next-next.ensures.in_order c.in_ok-delete.ensures.made c.in_ok-delete.ensures.valid c.in_ok-delete.ensures.marked
+    c.forget.new.self (subst (λ (xs : List RowNo). Takes (Del xs) c.delete.new.deriv c.forget.new.self) c.deref.ensures.value c.in_ok-forget.ensures.step) c.in_ok-forget.ensures.valid
+
+pub returns-then-is_empty-clause-goes_on : goal.returns-then-is_empty-clause-goes_on
+returns-then-is_empty-clause-goes_on c =
+    goes_so_far c.args.p.0 c.args.deriv.now c.offers.new.deriv c.delete.new.deriv c.args.gone.now c.delete.new.gone c.in_ok-ids.ids.items c.requires.ready c.next-first.ensures.in_order c.in_ok-ids.ensures.adds c.in_ok-ids.ensures.made
+    c.next-next.ensures.in_order c.in_ok-delete.ensures.made c.in_ok-delete.ensures.valid c.in_ok-delete.ensures.marked
+
+pub returns-in_err-forget-clause-goes_on : goal.returns-in_err-forget-clause-goes_on
+returns-in_err-forget-clause-goes_on c =
+    goes_further c.args.deriv.now c.delete.new.deriv c.forget.new.self
+    (goes_so_far c.args.p.0 c.args.deriv.now c.offers.new.deriv c.delete.new.deriv c.args.gone.now c.delete.new.gone c.in_ok-ids.ids.items c.requires.ready c.next-first.ensures.in_order c.in_ok-ids.ensures.adds c.in_ok-ids.ensures.made
+    c.next-next.ensures.in_order c.in_ok-delete.ensures.made c.in_ok-delete.ensures.valid c.in_ok-delete.ensures.marked)
+    (goes_same c.delete.new.deriv c.forget.new.self c.in_err-forget.ensures.step)
+
+pub returns-clause-goes_on : goal.returns-clause-goes_on
+returns-clause-goes_on c =
+    goes_with c.args.p.0 c.args.deriv.now c.offers.new.deriv c.delete.new.deriv c.args.gone.now c.delete.new.gone c.in_ok-ids.ids.items c.requires.ready c.next-first.ensures.in_order c.in_ok-ids.ensures.adds c.in_ok-ids.ensures.made
     c.next-next.ensures.in_order c.in_ok-delete.ensures.made c.in_ok-delete.ensures.valid c.in_ok-delete.ensures.marked
     c.forget.new.self (subst (λ (xs : List RowNo). Takes (Del xs) c.delete.new.deriv c.forget.new.self) c.deref.ensures.value c.in_ok-forget.ensures.step) c.in_ok-forget.ensures.valid

@@ -1,5 +1,6 @@
 use Rattle.std.proofs.Common.{sym, ap, ◌∙◌, arith}
-use Rattle.pair_reduction.proofs.Offering.{all_are_enough, ends_with_offers, is_offering_by, next_number, no_offer_by_only, no_offer_by_rank, offering_as, offering_made, offering_passed}
+use Rattle.pair_reduction.proofs.Offering.{all_are_enough, ends_with_offers, is_offering_by, no_offer_by_only, no_offer_by_rank, offering_as, offering_made, offering_passed}
+use Rattle.pair_reduction.proofs.Tested.{next_number}
 use Rattle.pair_reduction.proofs.offers.offers.Goals as goal
 use Rattle.pair_reduction.proofs.offers.offers.Goals.{then-rank_by_hospital+then-has_only+in_ok-id+in_ok-push, else-rank_by_hospital, else-rank_by_hospital-via-then-rank_by_hospital+else-has_only, else-rank_by_hospital-via-else-rank_by_hospital}
 

@@ -1,0 +1,13 @@
+use Rattle.std.proofs.Common.{inl}
+use Rattle.opb_text.proofs.Fronts.{on_err}
+use Rattle.hrt_cli.proofs.BegunOutputs.{bound_saved, saved_in_part}
+use Rattle.hrt_cli.proofs.proving.save_bound.Goals as goal
+
+pub returns-in_err-begin-clause-part : goal.returns-in_err-begin-clause-part
+returns-in_err-begin-clause-part g c = on_err _ _ (inl c.in_err-begin.ensures.part)
+
+pub returns-in_err-bound-clause-part : goal.returns-in_err-bound-clause-part
+returns-in_err-bound-clause-part g c = on_err _ _ (saved_in_part _ _ _ _ _ _ _ _ c.in_ok-begin.ensures.begun c.in_err-bound.ensures.part)
+
+pub returns-clause-saved : goal.returns-clause-saved
+returns-clause-saved g c = bound_saved _ _ _ _ _ _ _ _ c.in_ok-begin.ensures.begun c.in_ok-bound.ensures.bounded

@@ -1,0 +1,16 @@
+use Rattle.std.proofs.Common.{inl}
+use Rattle.opb_text.proofs.Fronts.{on_err}
+use Rattle.hrt_cli.proofs.BegunOutputs.{match_saved, saved_in_part}
+use Rattle.hrt_cli.proofs.proving.save_match.Goals as goal
+
+pub returns-in_err-begin-clause-part : goal.returns-in_err-begin-clause-part
+returns-in_err-begin-clause-part g c = on_err _ _ (inl c.in_err-begin.ensures.part)
+
+pub returns-in_err-quick-clause-part : goal.returns-in_err-quick-clause-part
+returns-in_err-quick-clause-part g c = on_err _ _ (saved_in_part _ _ _ _ _ _ _ _ c.in_ok-begin.ensures.begun c.in_err-quick.ensures.part)
+
+pub returns-clause-said : goal.returns-clause-said
+returns-clause-said g c = c.in_ok-quick.ensures.solved.said
+
+pub returns-clause-saved : goal.returns-clause-saved
+returns-clause-saved g c = match_saved _ _ _ _ _ _ _ _ c.in_ok-begin.ensures.begun c.in_ok-quick.ensures.solved

@@ -7,6 +7,7 @@ use crate::runs::{Ended, WORKED, host_with, words};
 use hrt_base::{NoMemory, Port};
 use hrt_cli::run;
 use std::alloc::Global;
+use std::process::Abort;
 use std::test::Fail;
 
 const BOUND_REPORT: &[u8] =
@@ -133,13 +134,13 @@ fn judge(alloc: Global, command: &str, input: &[u8], proof: &[u8]) -> Result<End
 
 // What `verify` and `check` tell of what a command wrote for the instance.
 fn accepted(
-    rt: &HostRuntime,
+    rt: &impl Abort,
+    alloc: Global,
     command: &str,
     instance: &[u8],
     verified: &[u8],
     checked: &[u8],
 ) -> Result<(), Fail> {
-    let alloc = rt.alloc();
     let written = prove(alloc, command, instance, 1_000, 1_000_000)?;
     let proof = written.host.file("p").unwrap_or(b"");
     let ended = judge(alloc, "verify", instance, proof)?;
@@ -185,7 +186,7 @@ fn proofs_of_matchings_are_accepted(rt: HostRuntime) -> Result<(), Fail> {
         ),
     ];
     for (instance, verified, checked) in cases.iter() {
-        accepted(&rt, "quick", instance, verified, checked)?;
+        accepted(&rt, rt.alloc(), "quick", instance, verified, checked)?;
     }
     Ok(())
 }
@@ -210,7 +211,7 @@ fn proofs_of_bounds_are_accepted(rt: HostRuntime) -> Result<(), Fail> {
         ),
     ];
     for (instance, verified, checked) in cases.iter() {
-        accepted(&rt, "bound", instance, verified, checked)?;
+        accepted(&rt, rt.alloc(), "bound", instance, verified, checked)?;
     }
     Ok(())
 }
@@ -253,7 +254,8 @@ struct Counts {
 
 // Each call fails in turn: begin to read and reads; two begin to write, writes and two seals; writes of the report and a seal.
 fn failing_in_turn(
-    rt: &HostRuntime,
+    rt: &impl Abort,
+    alloc: Global,
     command: &str,
     most: usize,
     proof: &[u8],
@@ -261,7 +263,6 @@ fn failing_in_turn(
 ) -> Result<Counts, Fail>
     requires { 0 < most }
 {
-    let alloc = rt.alloc();
     let mut counts = Counts {
         unread: 0,
         unwritten: 0,
@@ -293,7 +294,7 @@ fn failing_in_turn(
 #[test]
 fn each_call_of_a_bound_fails_in_turn(rt: HostRuntime) -> Result<(), Fail> {
     for most in [1, 3, 16] {
-        let counts = failing_in_turn(&rt, "bound", most, BOUND_PROOF, BOUND_REPORT)?;
+        let counts = failing_in_turn(&rt, rt.alloc(), "bound", most, BOUND_PROOF, BOUND_REPORT)?;
         assert!(rt; counts.unread > 2 && counts.unwritten > 20 && counts.done > 0);
     }
     Ok(())
@@ -302,7 +303,7 @@ fn each_call_of_a_bound_fails_in_turn(rt: HostRuntime) -> Result<(), Fail> {
 #[test]
 fn each_call_of_a_quick_solve_fails_in_turn(rt: HostRuntime) -> Result<(), Fail> {
     for most in [1, 3, 16] {
-        let counts = failing_in_turn(&rt, "quick", most, QUICK_PROOF, QUICK_REPORT)?;
+        let counts = failing_in_turn(&rt, rt.alloc(), "quick", most, QUICK_PROOF, QUICK_REPORT)?;
         assert!(rt; counts.unread > 2 && counts.unwritten > 20 && counts.done > 0);
     }
     Ok(())

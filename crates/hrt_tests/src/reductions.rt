@@ -187,9 +187,10 @@ fn lines_of_no_posts(rt: HostRuntime) -> Result<(), Fail> {
     Ok(())
 }
 
-// The first pair is sure of its post, so the second is deleted; then its resident has nothing else, so the third is.
+// The resident of the first pair ranks nothing else as high, so the third pair is deleted by its offer; and the first pair is sure
+// of its post, so the second is.
 const EACH_RULE: &[u8] =
-    b"pseudo-Boolean proof version 2.0\nf 7\nrup +1 ~x2 >= 1 ;\n* note unit 8\npol 5 3 +\nrup +1 ~x3 >= 1 ;\n* note unit 10\ndel id 9\noutput NONE\nconclusion NONE\nend pseudo-Boolean proof\n";
+    b"pseudo-Boolean proof version 2.0\nf 7\npol 5 3 +\nrup +1 ~x3 >= 1 ;\n* note unit 9\ndel id 8\nrup +1 ~x2 >= 1 ;\n* note unit 10\noutput NONE\nconclusion NONE\nend pseudo-Boolean proof\n";
 
 #[test]
 fn lines_of_each_rule(rt: HostRuntime) -> Result<(), Fail> {

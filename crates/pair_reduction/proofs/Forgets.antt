@@ -1,5 +1,5 @@
 -- Rows that were made for a while are forgotten.
-use Rattle.std.proofs.Common.{◌≡◌, ℕ, zero, suc, ◌-◌, ◌*◌, ◌<◌, ◌≤◌, ◌^◌, Bool, true, false, not, ◌||◌, ◌==◌, List, [], ◌∷◌, ◌++◌, nat_le, if◌then◌else◌, length, map, cond, refl, sym, ap, ◌∙◌, inl, inr, arith}
+use Rattle.std.proofs.Common.{◌≡◌, ℕ, zero, suc, ◌-◌, ◌*◌, ◌<◌, ◌≤◌, ◌^◌, Bool, true, false, not, ◌||◌, ◌==◌, List, [], ◌∷◌, ◌++◌, nat_le, if◌then◌else◌, length, map, cond, refl, sym, ap, ◌∙◌, subst, inl, inr, arith}
 use Rattle.std.specs.Prelude.{Option, Some, Result, Ok, Err, IsOk, is_ok, codes, decimal}
 use Rattle.std.specs.List.{list_all}
 use Rattle.std.proofs.lemmas.Bool.{and_from, and_parts, eq-eqb, eqb-true, false_from_ne_true, le-leb, not-true, or_cases, or_parts, or_left, or_right, true≢false}
@@ -16,9 +16,11 @@ use Rattle.proof_rules.specs.Refusals.{BadId, Refusal, and_then}
 use Rattle.proof_rules.specs.Held.{row_numbers}
 use Rattle.proof_rules.specs.States.{IsInOrder, State, deleted}
 use Rattle.proof_rules.proofs.HeldLive.{numbered-without}
-use Rattle.derivation.specs.Derived.{Derived}
+use Rattle.derivation.specs.Derived.{Derived, StaysValid}
 use Rattle.derivation.specs.Steps.{IsWritable, Takes}
-use Rattle.pair_reduction.proofs.Offering.{numbered_row}
+use Rattle.pair_reduction.specs.Reduced.{CanForget, Forgets}
+use Rattle.pair_reduction.proofs.Added.{adds_line, adds_nothing}
+use Rattle.pair_reduction.proofs.Offering.{goes_nowhere, numbered_row}
 use Rattle.proof_rules.proofs.Numbers.{live_within}
 
 -- ---- rows by number
@@ -107,11 +109,6 @@ del_writable ids some few h = record {
 
 -- ---- the call
 
--- rows that were made, in a later state in which they are all live
-pub record CanForget (ids : List RowNo) (d : Derived) : Type 0 where
-  pub distinct : is_distinct (row_numbers ids) ≡ true
-  pub live : (n : ℕ) → is_in n (row_numbers ids) ≡ true → is_numbered n d.state.live ≡ true
-
 pub forget_asks : (ids : List RowNo) (d : Derived) → CanForget ids d → IsOk (deleted ids d.state.live)
 forget_asks ids d can = let l = leaves ids d.state.live can.distinct can.live in ap (λ (r : Result (List NumberedRow) Refusal). is_ok r) l.is
 
@@ -151,3 +148,29 @@ forgot ids old new can taken =
 pub some_there : (n m : ℕ) → n ≡ m → (n == 0) ≡ false → 0 < m
 some_there zero m e f = absurd (true≢false f)
 some_there (suc n) m e f = omega arith
+
+pub in_none : (n : ℕ) (ids : List RowNo) → length ids ≡ 0 → is_in n (row_numbers ids) ≡ false
+in_none n [] e = refl
+in_none n (x ∷ ids) e = absurd (omega arith)
+
+pub forgets_none : (ids : List RowNo) (old new : Derived) → length ids ≡ 0 → new ≡ old → Forgets ids old new
+forgets_none ids old new none same = subst (Forgets ids old) (sym same) (record {
+  goes_on = goes_nowhere old;
+  held = refl;
+  next = refl;
+  notes = adds_nothing old;
+  others = λ n i. refl;
+  only = λ n i. (i, in_none n ids none);
+})
+
+pub forgets_all : (ids : List RowNo) (old new : Derived) → CanForget ids old → Takes (Del ids) old new → StaysValid old new → Forgets ids old new
+forgets_all ids old new can taken valid =
+    let f = forgot ids old new can taken in
+    record {
+      goes_on = record { more = (line_text (Del ids), f.pending); later = omega (arith, f.next); lists = f.lists; claim = f.claim; least = f.least; valid = valid };
+      held = f.held;
+      next = f.next;
+      notes = adds_line (Del ids) old new f.pending;
+      others = f.others;
+      only = f.only;
+    }

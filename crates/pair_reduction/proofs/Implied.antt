@@ -70,6 +70,6 @@ implied_by_a lists d deletions w same ready units w_is declared rule =
     (row_contained (pair_row_no lists p) (in_normal_form (pair_row lists p)) d.state.live (model_row lists d (pair_row_no lists p) (pair_row lists p) same ready (omega (arith, at.0.0)) (is_pair_row lists p at.0)))
     (λ g g_is k. unit_at d.state.live deletions g (unit_of deletions g) (units g) k)
 
-pub implied_by_b : (lists : Lists) (d : Derived) (deletions : Deletions) (p : ℕ) → lists ≡ d.lists → IsReady d → IsPairNo lists p → (pair_at lists p).hospital < length lists.hospitals → HasOffers lists deletions p d.state.live → Implies (live_rows d.state) (unit_row p)
-implied_by_b lists d deletions p same ready p_is declared offers =
+pub implied_by_b : (lists : Lists) (d : Derived) (p : ℕ) → lists ≡ d.lists → IsReady d → IsPairNo lists p → (pair_at lists p).hospital < length lists.hospitals → HasOffers lists p d.state.live → Implies (live_rows d.state) (unit_row p)
+implied_by_b lists d p same ready p_is declared offers =
     rule_b_follows lists p (live_rows d.state) offers.offered p_is offers.enough (λ q q_is o. let row = offers.rows q q_is o in row_contained row.0 _ d.state.live row.1) (hospital_contained lists d p same ready p_is declared)

@@ -19,3 +19,4 @@ mod Implied
 mod Forgets
 mod Deleting
 mod Reducing
+mod Serving

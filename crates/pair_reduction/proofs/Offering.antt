@@ -214,7 +214,7 @@ better_left true false c h = absurd (true≢false (sym h))
 better_left false b c h = absurd (true≢false (sym h))
 
 pub has_offers : (lists : Lists) (deletions : Deletions) (p : ℕ) (qs : List ℕ) (live : List NumberedRow) (count : ℕ) → HaveOffers lists deletions p qs live count → is_distinct qs ≡ true → ((q : ℕ) → is_in q qs ≡ true → is_in q (pairs_of_hospital lists (pair_at lists p).hospital) ≡ true) →
-    capacity_of lists (pair_at lists p).hospital ≤ count → HasOffers lists deletions p live
+    capacity_of lists (pair_at lists p).hospital ≤ count → HasOffers lists p live
 has_offers lists deletions p qs live count have distinct within enough = record {
   offered = λ q. is_in q qs && is_offering lists deletions p q;
   enough =
@@ -278,7 +278,7 @@ numbers_front (suc i) [] = refl
 numbers_front (suc i) (p ∷ ps) = ap (λ (ns : List ℕ). p.0 ∷ ns) (numbers_front i ps)
 
 pub ends_with_offers : (inst lists : Lists) (start now : Derived) (deletions : Deletions) (p h posts i : ℕ) (ps : List PairNo) (ids : List RowNo) → inst ≡ lists → h ≡ (pair_at inst p).hospital → posts ≡ capacity_of inst h → is_distinct (numbers_of ps) ≡ true →
-    ((q : ℕ) → is_in q (numbers_of ps) ≡ is_in q (pairs_of_hospital inst h)) → Offering lists start now deletions p posts (numbers_of (take i ps)) ids → posts ≤ length ids → HasOffers lists deletions p now.state.live
+    ((q : ℕ) → is_in q (numbers_of ps) ≡ is_in q (pairs_of_hospital inst h)) → Offering lists start now deletions p posts (numbers_of (take i ps)) ids → posts ≤ length ids → HasOffers lists p now.state.live
 ends_with_offers inst lists start now deletions p h posts i ps ids same hospital capacity distinct alike o enough =
     let posts_are : posts ≡ capacity_of lists (pair_at lists p).hospital = capacity ∙ ap (capacity_of inst) hospital ∙ ap (λ (l : Lists). capacity_of l (pair_at l p).hospital) same in
     has_offers lists deletions p (numbers_of (take i ps)) now.state.live (length ids) o.have (ap is_distinct (numbers_front i ps) ∙ distinct_front i (numbers_of ps) distinct)

@@ -20,7 +20,7 @@ use Rattle.derivation.specs.Deletions.{AreUnitRows, Deletions, deleted_count, is
 use Rattle.derivation.specs.Derived.{Derived}
 use Rattle.derivation.specs.Ready.{IsReady}
 use Rattle.pair_reduction.specs.Known.{IsOneMore}
-use Rattle.pair_reduction.specs.Reduced.{AreInNone, CanReduce, Deletes, HoldsUnits, IsClosedTo, Reduces}
+use Rattle.pair_reduction.specs.Reduced.{Adds, AreInNone, CanReduce, Deletes, HasRoom, HoldsUnits, IsClosedTo, MakesOnes, Reduces}
 use Rattle.pair_reduction.proofs.Added.{adds_nothing, only_further, only_none, units_further}
 use Rattle.pair_reduction.proofs.Offering.{goes_further, goes_nowhere, kept_further, units_kept}
 
@@ -101,7 +101,6 @@ reduces_one lists old new before after p can p_is absent rule d few =
     let marked : after ≡ slice_set before (p - 1) (Some id) = d.marked in
     let count : deleted_count after ≡ deleted_count before + 1 = ap deleted_count marked ∙ marked_count before p id first last absent in
     let here : unit_of after p ≡ Some id = ap (λ (m : Deletions). unit_of m p) marked ∙ marked_here before p id first last in
-    let left = one_left before p id first last absent in
     record {
       can = record {
         same = can.same ∙ sym d.goes_on.lists;
@@ -112,13 +111,13 @@ reduces_one lists old new before after p can p_is absent rule d few =
           | inl f ↦ subst (Gone lists) (sym f) (gone_step lists (is_deleted before) p (λ k h. can.gone k h) p_is rule)
           | inr other ↦ can.gone q (was_deleted before p q id first last (ap (λ (m : Deletions). is_deleted m q) (sym marked) ∙ e) other)
         ];
-        room = omega (arith, can.room, few, count, can.pairs, left);
       };
       goes_on = d.goes_on;
       kept = d.kept;
       few = omega (arith, few, count);
       stays = λ q other e. ap (λ (m : Deletions). unit_of m q) marked ∙ grown_unit before p q id other first last absent e;
       ids = d.id ∷ [];
+      later = λ n i. let e = one_of n d.id i in omega (arith, d.later);
       held = d.held;
       notes = d.notes;
       only = d.only;
@@ -140,6 +139,7 @@ reduces_none lists d deletions can = record {
   few = omega arith;
   stays = λ p id e. e;
   ids = [];
+  later = λ n i. absurd (true≢false (sym i));
   held = ap (λ (ns : List ℕ). record d.held { kept = ns }) (sym (append-nil d.held.kept));
   notes = adds_nothing d;
   only = only_none d;
@@ -156,6 +156,10 @@ reduces_more lists a b c x y z g h = record {
   few = omega (arith, g.few, h.few);
   stays = λ p id e. h.stays p id (g.stays p id e);
   ids = g.ids ++ h.ids;
+  later = λ n i. elim (or_cases (is_in n g.ids) (is_in n h.ids) (sym (is_in-append n g.ids h.ids) ∙ i)) [
+    | inl e ↦ g.later n e
+    | inr e ↦ omega (arith, g.goes_on.later, h.later n e)
+  ];
   held = h.held ∙ ap (keeping h.ids) g.held ∙ ap (λ (ns : List ℕ). record a.held { kept = ns }) (append_assoc a.held.kept g.ids h.ids);
   notes = units_further g.ids h.ids a b c g.notes h.notes;
   only = only_further g.ids h.ids a b c g.only h.only;
@@ -180,14 +184,6 @@ reduces_more lists a b c x y z g h = record {
 pub left_of : (lists : Lists) (d : Derived) (deletions : Deletions) (p : ℕ) → CanReduce lists d deletions → IsPairNo lists p → is_deleted deletions p ≡ false → deleted_count deletions + 1 ≤ pair_count lists
 left_of lists d deletions p can p_is e =
     omega (arith, one_left deletions p (row_no 0) p_is.0 (omega (arith, can.pairs, p_is.1)) (absent_from (unit_of deletions p) e), can.pairs)
-
-pub tried_a : (lists : Lists) (old new : Derived) (before after : Deletions) (p : ℕ) → CanReduce lists old before → IsPairNo lists p → is_deleted before p ≡ false → rule_a lists (is_deleted before) p ≡ true → Deletes old new before after p →
-    new.state.next ≤ old.state.next + 20001 → Reduces lists old new before after
-tried_a lists old new before after p can p_is e rule d few = reduces_one lists old new before after p can p_is (absent_from (unit_of before p) e) (or_left (rule_a lists (is_deleted before) p) (rule_b lists (is_deleted before) p) rule) d few
-
-pub tried_b : (lists : Lists) (old new : Derived) (before after : Deletions) (p : ℕ) → CanReduce lists old before → IsPairNo lists p → is_deleted before p ≡ false → rule_b lists (is_deleted before) p ≡ true → Deletes old new before after p →
-    new.state.next ≤ old.state.next + 20001 → Reduces lists old new before after
-tried_b lists old new before after p can p_is e rule d few = reduces_one lists old new before after p can p_is (absent_from (unit_of before p) e) (or_right (rule_a lists (is_deleted before) p) (rule_b lists (is_deleted before) p) rule) d few
 
 -- one more is deleted
 pub is_one_more : (old new : Derived) (before after : Deletions) (p : ℕ) → 1 ≤ p → p ≤ length before → is_deleted before p ≡ false → Deletes old new before after p → IsOneMore before after p
@@ -234,18 +230,53 @@ holds_units lists old new deletions n r = record {
 none_there : (n p : ℕ) → is_deleted (replicate n None) p ≡ true → ⊥
 none_there n p e = true≢false (sym e ∙ ap is_some (none_at n p))
 
-can_first : (lists : Lists) (d : Derived) → lists ≡ d.lists → IsReady d → d.state.next + 20001 * pair_count d.lists ≤ 10 ^ 18 → CanReduce lists d (replicate (pair_count lists) None)
-can_first lists d same ready room = record {
+can_first : (lists : Lists) (d : Derived) → lists ≡ d.lists → IsReady d → CanReduce lists d (replicate (pair_count lists) None)
+can_first lists d same ready = record {
   same = same;
   ready = ready;
   units = λ p. subst (λ (o : Option RowNo). IfSome o (λ id. row_of id.0 d.state.live ≡ Some (unit_row p))) (sym (none_at (pair_count lists) p)) tt;
   pairs = length-replicate (pair_count lists) None;
   gone = λ p e. absurd (none_there (pair_count lists) p e);
-  room = let counts : pair_count lists ≡ pair_count d.lists = ap pair_count same in omega (arith, room, counts);
 }
 
-pub reduces_first : (lists at : Lists) (d : Derived) (n : ℕ) (deletions : Deletions) → lists ≡ d.lists → at ≡ d.lists → IsReady d → n ≡ pair_count at → deletions ≡ replicate n None → d.state.next + 20001 * pair_count d.lists ≤ 10 ^ 18 →
+pub reduces_first : (lists at : Lists) (d : Derived) (n : ℕ) (deletions : Deletions) → lists ≡ d.lists → at ≡ d.lists → IsReady d → n ≡ pair_count at → deletions ≡ replicate n None →
     Reduces lists d d (replicate (pair_count lists) None) deletions
-reduces_first lists at d n deletions same again ready count is room =
+reduces_first lists at d n deletions same again ready count is =
     let all : deletions ≡ replicate (pair_count lists) None = is ∙ ap (λ (k : ℕ). replicate k None) (count ∙ ap pair_count (again ∙ sym same)) in
-    subst (Reduces lists d d (replicate (pair_count lists) None)) (sym all) (reduces_none lists d (replicate (pair_count lists) None) (can_first lists d same ready room))
+    subst (Reduces lists d d (replicate (pair_count lists) None)) (sym all) (reduces_none lists d (replicate (pair_count lists) None) (can_first lists d same ready))
+
+-- ---- the rows that can still be made
+
+pub room_first : (lists : Lists) (d : Derived) → lists ≡ d.lists → d.state.next + 20001 * pair_count d.lists ≤ 10 ^ 18 → HasRoom 20001 lists d (replicate (pair_count lists) None)
+room_first lists d same room = let counts : pair_count lists ≡ pair_count d.lists = ap pair_count same in omega (arith, room, counts, none_counted (pair_count lists))
+
+pub room_left : (lists : Lists) (old new : Derived) (before after : Deletions) → Reduces lists old new before after → HasRoom 20001 lists old before → HasRoom 20001 lists new after
+room_left lists old new before after r room = omega (arith, room, r.few, r.can.pairs, count_by-le-length is_some after)
+
+pub room_for_ones : (lists : Lists) (old new : Derived) (before after : Deletions) → Reduces lists old new before after → MakesOnes old new before after → HasRoom 1 lists old before → HasRoom 1 lists new after
+room_for_ones lists old new before after r ones room = omega (arith, room, ones, r.goes_on.later, r.can.pairs, count_by-le-length is_some after)
+
+pub ones_further : (lists : Lists) (old now : Derived) (before between : Deletions) (n : ℕ) → Reduces lists old now before between → MakesOnes old now before between → n ≤ now.state.next + (pair_count lists - deleted_count between) → n ≤ old.state.next + (pair_count lists - deleted_count before)
+ones_further lists old now before between n r ones few = omega (arith, few, ones, r.goes_on.later, r.can.pairs, count_by-le-length is_some between)
+
+-- rows that are added leave more to be deleted
+pub can_added : (lists : Lists) (old new : Derived) (deletions : Deletions) (rows : ℕ) → CanReduce lists old deletions → Adds old new rows → CanReduce lists new deletions
+can_added lists old new deletions rows can adds = record {
+  same = can.same ∙ sym adds.goes_on.lists;
+  ready = adds.ready;
+  units = units_kept old new deletions adds.kept can.units;
+  pairs = can.pairs;
+  gone = can.gone;
+}
+
+-- one at least is deleted, where a pair is that wasn't
+pub some_deleted : (lists : Lists) (old new : Derived) (before after : Deletions) (p : ℕ) → Reduces lists old new before after → is_deleted before p ≡ false → is_deleted after p ≡ true → deleted_count before < deleted_count after
+some_deleted lists old new before after p r absent there = by r.ids refl (unit_of after p) refl there
+  where
+    by : (ids : List ℕ) → r.ids ≡ ids → (o : Option RowNo) → unit_of after p ≡ o → is_some o ≡ true → deleted_count before < deleted_count after
+    by ids e None f h = absurd (true≢false (sym h))
+    by [] e (Some id) f h = elim (r.all p id f) [
+      | inl g ↦ absurd (true≢false (sym (ap is_some g) ∙ absent))
+      | inr g ↦ absurd (true≢false (sym g ∙ ap (is_in id.0) e))
+    ]
+    by (n ∷ ids) e (Some id) f h = omega (arith, r.count, ap length e)

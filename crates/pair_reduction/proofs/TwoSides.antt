@@ -1,7 +1,7 @@
 -- The lists of a side, its tests, and the rules that they stand for.
 use Rattle.std.proofs.Common.{◌≡◌, ℕ, suc, ◌+◌, ◌<◌, ◌≤◌, Bool, true, false, not, ◌&&◌, ◌||◌, ◌==◌, List, [], ◌∷◌, nat_le, nat_lt, if◌then◌else◌, length, count_by, refl, sym, ap, ap₂, ◌∙◌, subst, inl, inr, arith}
 use Rattle.std.specs.List.{list_all, list_any}
-use Rattle.std.proofs.lemmas.Bool.{and_from, and_parts, cases_Bool, eq-eqb, le-leb, leb-false, leb-true, le-ltb, lt-leb, lt-ltb, ltb-true, not-true, not_from_false, true≢false}
+use Rattle.std.proofs.lemmas.Bool.{and_from, and_parts, cases_Bool, eq-eqb, le-leb, leb-false, leb-true, le-ltb, lt-ltb, ltb-true, or_left, or_right, true≢false}
 use Rattle.std.proofs.lemmas.List.Sums.{sum_by-cons}
 use Rattle.rank_tables.specs.Numbers.{is_distinct, is_in, numbers_to}
 use Rattle.rank_tables.specs.Instance.{Lists, capacity_of, pair_at, pair_count, pairs_of_hospital, pairs_of_resident, rank_by_hospital, rank_by_resident}
@@ -122,3 +122,8 @@ pub rule_b-passed : (lists : Lists) (gone : Pairs) (p : ℕ) → rule_b lists go
 rule_b-passed lists gone p =
     ap (nat_le (capacity_of lists (pair_at lists p).hospital)) (count_same_in (λ q. nat_lt (rank_by_hospital lists q) (rank_by_hospital lists p) && has_only lists gone q) (λ q. nat_lt (rank_by_hospital lists q) (rank_by_hospital lists p) && is_free Resident lists gone q) (pairs_of_hospital lists (pair_at lists p).hospital)
     (λ q i. ap (λ (b : Bool). nat_lt (rank_by_hospital lists q) (rank_by_hospital lists p) && b) (free_only lists gone q)))
+
+-- what free pairs of the other side pass, a rule shows
+pub rule_shown : (side : Side) (lists : Lists) (gone : Pairs) (w : ℕ) → is_passed side lists (is_free (other side) lists gone) w ≡ true → (rule_a lists gone w || rule_b lists gone w) ≡ true
+rule_shown Resident lists gone w h = or_left (rule_a lists gone w) (rule_b lists gone w) (rule_a-passed lists gone w ∙ h)
+rule_shown Hospital lists gone w h = or_right (rule_a lists gone w) (rule_b lists gone w) (rule_b-passed lists gone w ∙ h)

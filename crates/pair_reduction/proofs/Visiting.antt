@@ -70,7 +70,7 @@ deletes_one side lists old new w kept w_is visited drops = record {
 
 -- ---- the pairs of a list
 
-one_of_more : (q p : ℕ) (ps more : List ℕ) → more ≡ ps ++ p ∷ [] → is_in q more ≡ true → (is_in q ps ≡ true) ⊎ (q ≡ p)
+pub one_of_more : (q p : ℕ) (ps more : List ℕ) → more ≡ ps ++ p ∷ [] → is_in q more ≡ true → (is_in q ps ≡ true) ⊎ (q ≡ p)
 one_of_more q p ps more e i = elim (or_cases (is_in q ps) (is_in q (p ∷ [])) (sym (list_any-append (λ y. y == q) ps (p ∷ [])) ∙ ap (is_in q) (sym e) ∙ i)) [
   | inl f ↦ inl f
   | inr f ↦ elim (or_cases (p == q) false f) [
@@ -122,10 +122,11 @@ pub record Deleting (side : Side) (lists : Lists) (start now : Known) (ps : List
   pub pays : Pays start now
   pub unmarked : (s : Side) → marks_on s now ≡ marks_on s start
   pub rests : waiting_on side now ≡ waiting_on side start
+  pub grows : (q : ℕ) → is_deleted start.gone q ≡ true → is_deleted now.gone q ≡ true
   pub done : (w : ℕ) → is_in w ps ≡ true → is_passed side lists (is_marked (marks_on (other side) start)) w ≡ true → is_deleted now.gone w ≡ true
 
 pub deleting_none : (side : Side) (lists : Lists) (start : Known) → IsKept lists start → Deleting side lists start start []
-deleting_none side lists start kept = record { kept = kept; pays = omega arith; unmarked = λ s. refl; rests = refl; done = λ w i h. absurd (true≢false (sym i)) }
+deleting_none side lists start kept = record { kept = kept; pays = omega arith; unmarked = λ s. refl; rests = refl; grows = λ q h. h; done = λ w i h. absurd (true≢false (sym i)) }
 
 pub deleting_more : (side : Side) (lists : Lists) (start now new : Known) (ps more : List ℕ) (w : ℕ) → more ≡ ps ++ w ∷ [] → Deleting side lists start now ps → TriesDelete side lists now new w → Deleting side lists start new more
 deleting_more side lists start now new ps more w e deleting tries = record {
@@ -133,6 +134,7 @@ deleting_more side lists start now new ps more w e deleting tries = record {
   pays = omega (arith, deleting.pays, tries.pays);
   unmarked = λ s. tries.unmarked s ∙ deleting.unmarked s;
   rests = tries.rests ∙ deleting.rests;
+  grows = λ q h. tries.grows q (deleting.grows q h);
   done = λ q i h. elim (one_of_more q w ps more e i) [
     | inl f ↦ tries.grows q (deleting.done q f h)
     | inr f ↦

@@ -6,3 +6,4 @@ pub mod Ranks
 pub mod Reduced
 pub mod Sides
 pub mod Visits
+pub mod Served

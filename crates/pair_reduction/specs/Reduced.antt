@@ -90,16 +90,31 @@ pub record HaveOffers (lists : Lists) (deletions : Deletions) (p : ℕ) (qs : Li
   pub rows : (q : ℕ) → is_in q qs ≡ true → is_offering lists deletions p q ≡ true → (n : ℕ) × (row_of n live ≡ Some (offer_row lists q))
 
 -- some pairs of the hospital of p, as many as it has posts, are offering, and the rows of their offers are live
-pub record HasOffers (lists : Lists) (deletions : Deletions) (p : ℕ) (live : List NumberedRow) : Type 0 where
+pub record HasOffers (lists : Lists) (p : ℕ) (live : List NumberedRow) : Type 0 where
   pub offered : ℕ → Bool
   pub enough : capacity_of lists (pair_at lists p).hospital ≤ count_by (λ q. nat_lt (rank_by_hospital lists q) (rank_by_hospital lists p) && offered q) (pairs_of_hospital lists (pair_at lists p).hospital)
   pub rows : (q : ℕ) → IsPairNo lists q → offered q ≡ true → (n : ℕ) × (row_of n live ≡ Some (offer_row lists q))
+
+-- these rows can be forgotten
+pub record CanForget (ids : List RowNo) (d : Derived) : Type 0 where
+  pub distinct : is_distinct (row_numbers ids) ≡ true
+  pub live : (n : ℕ) → is_in n (row_numbers ids) ≡ true → is_numbered n d.state.live ≡ true
+
+-- these rows were forgotten, and nothing else was done
+pub record Forgets (ids : List RowNo) (old new : Derived) : Type 0 where
+  pub goes_on : GoesOn old new
+  pub held : new.held ≡ old.held
+  pub next : new.state.next ≡ old.state.next
+  pub notes : AddsNotes [] old new
+  pub others : (n : ℕ) → is_in n (row_numbers ids) ≡ false → row_of n new.state.live ≡ row_of n old.state.live
+  pub only : (n : ℕ) → is_numbered n new.state.live ≡ true → (is_numbered n old.state.live ≡ true) × (is_in n (row_numbers ids) ≡ false)
 
 -- ---- one pair
 
 -- pair p was deleted: its row is live, is marked and is held, and nothing else is left of what was made
 pub record Deletes (old new : Derived) (before after : Deletions) (p : ℕ) : Type 0 where
   pub id : ℕ
+  pub later : old.state.next ≤ id
   pub goes_on : GoesOn old new
   pub kept : KeepsLive old new
   pub ready : IsReady new
@@ -118,7 +133,14 @@ pub record CanReduce (lists : Lists) (d : Derived) (deletions : Deletions) : Typ
   pub units : AreUnitRows d.state.live deletions
   pub pairs : length deletions ≡ pair_count lists
   pub gone : (p : ℕ) → is_deleted deletions p ≡ true → Gone lists p
-  pub room : d.state.next + 20001 * (pair_count lists - deleted_count deletions) ≤ 10 ^ 18
+
+-- so many rows can be made for each pair that is left
+abbrev pub HasRoom : ℕ → Lists → Derived → Deletions → Type 0
+HasRoom rows lists d deletions = d.state.next + rows * (pair_count lists - deleted_count deletions) ≤ 10 ^ 18
+
+-- no more rows were made than pairs deleted
+abbrev pub MakesOnes : Derived → Derived → Deletions → Deletions → Type 0
+MakesOnes old new before after = new.state.next + deleted_count before ≤ old.state.next + deleted_count after
 
 -- some pairs were deleted: the rows of those are held, one for each, and those from before are as they were
 pub record Reduces (lists : Lists) (old new : Derived) (before after : Deletions) : Type 0 where
@@ -128,6 +150,7 @@ pub record Reduces (lists : Lists) (old new : Derived) (before after : Deletions
   pub few : new.state.next + 20001 * deleted_count before ≤ old.state.next + 20001 * deleted_count after
   pub stays : (p : ℕ) (id : RowNo) → unit_of before p ≡ Some id → unit_of after p ≡ Some id
   pub ids : List ℕ
+  pub later : (n : ℕ) → is_in n ids ≡ true → old.state.next ≤ n
   pub held : new.held ≡ keeping ids old.held
   pub notes : AddsNotes (unit_notes ids) old new
   pub only : LeavesOnly ids old new

@@ -1,74 +1,93 @@
 // Pairs that a rule shows are deleted.
-ghost use Rattle.std.specs.Prelude.{◌≡◌, ◌≤◌, ◌+◌, ◌^◌, None, OnOk, length, true};
-ghost use Rattle.rank_tables.specs.Instance.{pair_count};
+ghost use Rattle.std.specs.Prelude.{◌≡◌, ◌≤◌, ◌+◌, ◌<◌, ◌^◌, IfOk, None, OnErr, OnOk, length, true, false};
 ghost use Rattle.rank_tables.specs.Tables.{IsPairNo};
-ghost use Rattle.stability_model.specs.Gone.{rule_a, rule_b};
-ghost use Rattle.derivation.specs.Deletions.{AreUnitRows, is_deleted, unit_of};
-ghost use Rattle.derivation.specs.Ready.{IsReady};
-ghost use Rattle.pair_reduction.specs.Reduced.{Deletes, GoesOn};
+ghost use Rattle.derivation.specs.Deletions.{is_deleted};
+ghost use Rattle.pair_reduction.specs.Known.{IsOneMore};
+ghost use Rattle.pair_reduction.specs.Reduced.{Adds, AreMade, CanForget, CanReduce, Forgets, GoesOn, Reduces};
+ghost use Rattle.pair_reduction.specs.Served.{IsServed};
+ghost use Rattle.pair_reduction.specs.Sides.{is_free, is_passed, other};
 
 use crate::offers::offers;
+use crate::sides::{Side, list_of};
 use crate::units::delete;
 use derivation::{Deleted, Derivation};
-use hrt_base::{NoMemory, PairNo};
+use hrt_base::{NoMemory, PairNo, RowNo};
 use stability_model::Model;
 use std::alloc::Global;
 
-/// Deletes a pair by rule A: one line, from the rows of its resident and of a pair that is sure of a post.
-pub(crate) fn delete_by_rule_a(
+/// Makes the rows by which a pair, and what its list ranks as low, is deleted by the rule of a side. By rule A that is none; by rule B
+/// they are offers.
+pub(crate) fn serve(
+    alloc: Global,
+    model: &Model,
+    deriv: &mut Derivation,
+    gone: &Deleted,
+    side: Side,
+    p: PairNo,
+) -> Result<Vec<RowNo>, NoMemory>
+    requires can { CanReduce model.now deriv.old gone.now }
+    requires p { IsPairNo model.now p.0 }
+    requires rule { is_passed side model.now (is_free (other side) model.now (is_deleted gone.now)) p.0 ≡ true }
+    requires next { deriv.old.state.next + 20000 < 10 ^ 18 }
+    ensures adds { IfOk result (λ ids. Adds deriv.old deriv.new (length ids.items)) }
+    ensures made { IfOk result (λ ids. AreMade deriv.old deriv.new ids.items) }
+    ensures few { IfOk result (λ ids. length ids.items ≤ 20000) }
+    ensures served { OnOk result (IsServed side model.now deriv.new.state.live p.0) }
+    ensures goes_on { GoesOn deriv.old deriv.new }
+    ensures next { deriv.new.state.next ≤ deriv.old.state.next + 20000 }
+{
+    match side {
+        Side::Resident => Ok(Vec::new(alloc)),
+        Side::Hospital => {
+            let ids = offers(alloc, model, deriv, gone, p)?;
+            Ok(ids)
+        }
+    }
+}
+
+/// Deletes a pair by the rule of a side: one line and its note.
+pub(crate) fn delete_by_rule(
     alloc: Global,
     model: &Model,
     deriv: &mut Derivation,
     gone: &mut Deleted,
+    side: Side,
     w: PairNo,
 ) -> Result<(), NoMemory>
-    requires model { model.now ≡ deriv.old.lists }
-    requires ready { IsReady deriv.old }
-    requires units { AreUnitRows deriv.old.state.live gone.old }
-    requires pairs { length gone.old ≡ pair_count model.now }
+    requires can { CanReduce model.now deriv.old gone.old }
     requires w { IsPairNo model.now w.0 }
-    requires absent { unit_of gone.old w.0 ≡ None }
-    requires rule { rule_a model.now (is_deleted gone.old) w.0 ≡ true }
-    requires next { deriv.old.state.next + 20001 ≤ 10 ^ 18 }
-    ensures deletes { OnOk result (Deletes deriv.old deriv.new gone.old gone.new w.0) }
+    requires absent { is_deleted gone.old w.0 ≡ false }
+    requires rule { is_passed side model.now (is_free (other side) model.now (is_deleted gone.old)) w.0 ≡ true }
+    requires served { IsServed side model.now deriv.old.state.live w.0 }
+    requires next { deriv.old.state.next < 10 ^ 18 }
+    ensures reduces { OnOk result (Reduces model.now deriv.old deriv.new gone.old gone.new) }
+    ensures more { OnOk result (IsOneMore gone.old gone.new w.0) }
     ensures goes_on { GoesOn deriv.old deriv.new }
-    ensures few { deriv.new.state.next ≤ deriv.old.state.next + 20001 }
+    ensures one { deriv.new.state.next ≤ deriv.old.state.next + 1 }
 {
-    let _resident = model.instance().resident_of(w);
+    let _list = list_of(model.instance(), side, w);
     let _next = deriv.next();
     delete(alloc, model, deriv, gone, w)?;
     Ok(())
 }
 
-/// Deletes a pair by rule B: rows for so many residents as its hospital has posts, one line, and the rows are forgotten.
-pub(crate) fn delete_by_rule_b(
+/// Forgets rows that were made for a while. Where there is none, it writes no line.
+pub(crate) fn forget(
     alloc: Global,
-    model: &Model,
     deriv: &mut Derivation,
-    gone: &mut Deleted,
-    p: PairNo,
+    ids: &[RowNo],
 ) -> Result<(), NoMemory>
-    requires model { model.now ≡ deriv.old.lists }
-    requires ready { IsReady deriv.old }
-    requires units { AreUnitRows deriv.old.state.live gone.old }
-    requires pairs { length gone.old ≡ pair_count model.now }
-    requires p { IsPairNo model.now p.0 }
-    requires absent { unit_of gone.old p.0 ≡ None }
-    requires rule { rule_b model.now (is_deleted gone.old) p.0 ≡ true }
-    requires next { deriv.old.state.next + 20001 ≤ 10 ^ 18 }
-    ensures deletes { OnOk result (Deletes deriv.old deriv.new gone.old gone.new p.0) }
-    ensures goes_on { GoesOn deriv.old deriv.new }
-    ensures few { deriv.new.state.next ≤ deriv.old.state.next + 20001 }
+    requires open { deriv.old.claim ≡ None }
+    requires can { CanForget ids.now deriv.old }
+    requires few { length ids.now ≤ 20000 }
+    requires next { deriv.old.state.next ≤ 10 ^ 18 }
+    ensures forgets { OnOk result (Forgets ids.now deriv.old deriv.new) }
+    ensures same { OnErr result (deriv.new ≡ deriv.old) }
 {
-    let _hospital = model.instance().hospital_of(p);
-    let _first = deriv.next();
-    let ids = offers(alloc, model, deriv, gone, p)?;
-    let _next = deriv.next();
-    delete(alloc, model, deriv, gone, p)?;
     if ids.is_empty() {
         return Ok(());
     }
     let _last = deriv.next();
-    deriv.forget(alloc, &ids)?;
+    deriv.forget(alloc, ids)?;
     Ok(())
 }

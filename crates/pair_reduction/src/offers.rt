@@ -137,7 +137,7 @@ pub(crate) fn offers(
     ensures adds { IfOk result (λ ids. Adds deriv.old deriv.new (length ids.items)) }
     ensures made { IfOk result (λ ids. AreMade deriv.old deriv.new ids.items) }
     ensures few { IfOk result (λ ids. length ids.items ≤ 20000) }
-    ensures offers { OnOk result (HasOffers model.now gone.now p.0 deriv.new.state.live) }
+    ensures offers { OnOk result (HasOffers model.now p.0 deriv.new.state.live) }
     ensures goes_on { GoesOn deriv.old deriv.new }
     ensures next { deriv.new.state.next ≤ deriv.old.state.next + 20000 }
 {

@@ -1,16 +1,17 @@
 // Visits of a list: its passed pairs are deleted, and its free pairs are marked.
-ghost use Rattle.std.specs.Prelude.{◌≡◌, ◌-◌, ◌<◌, OnOk, false, not, true};
+ghost use Rattle.std.specs.Prelude.{◌≡◌, ◌+◌, ◌++◌, ◌-◌, ◌<◌, ◌≤◌, ◌∷◌, [], ℕ, IfSome, List, OnOk, not, true};
 ghost use Rattle.rank_tables.specs.Instance.{pair_count};
 ghost use Rattle.rank_tables.specs.Tables.{IsPairNo};
 ghost use Rattle.derivation.specs.Deletions.{deleted_count, is_deleted};
 ghost use Rattle.pair_reduction.specs.Flags.{is_marked, is_waiting};
-ghost use Rattle.pair_reduction.specs.Known.{ArePassed, Gains, IsKept, IsOneMore, IsSettled, Pays, marks_on, waiting_on};
+ghost use Rattle.pair_reduction.specs.Known.{ArePassed, Gains, IsKept, IsSettled, Pays, marks_on, waiting_on};
 ghost use Rattle.pair_reduction.specs.Ranks.{AreRising};
-ghost use Rattle.pair_reduction.specs.Reduced.{CanReduce, GoesOn, MakesFew, Reduces};
+ghost use Rattle.pair_reduction.specs.Reduced.{CanReduce, GoesOn, HasRoom, MakesFew, MakesOnes, Reduces};
+ghost use Rattle.pair_reduction.specs.Served.{FirstOf, IsDue, IsFirst, IsServed};
 ghost use Rattle.pair_reduction.specs.Sides.{is_free, is_passed, list_count, list_of, other, pairs_on};
 ghost use Rattle.pair_reduction.specs.Visits.{TriesDelete, TriesMark};
 
-use crate::deletions::{delete_by_rule_a, delete_by_rule_b};
+use crate::deletions::{delete_by_rule, forget, serve};
 use crate::known::Known;
 use crate::ranks::{are_within, ranks_left, ranks_marked};
 use crate::sides::{Side, list_of, other, pairs_on, places, rank_on};
@@ -20,34 +21,55 @@ use rank_tables::Instance;
 use stability_model::Model;
 use std::alloc::Global;
 
-/// Deletes a passed pair by the rule of a side.
-fn delete_by_rule(
-    alloc: Global,
-    model: &Model,
-    deriv: &mut Derivation,
-    gone: &mut Deleted,
+/// The first by rank of a pair to be deleted, if there is one, and another.
+fn sooner(
+    inst: &Instance,
+    known: &Known,
     side: Side,
+    marked: &[u32],
+    first: Option<PairNo>,
     w: PairNo,
-) -> Result<(), NoMemory>
-    requires can { CanReduce model.now deriv.old gone.old }
-    requires w { IsPairNo model.now w.0 }
-    requires absent { is_deleted gone.old w.0 ≡ false }
-    requires rule { is_passed side model.now (is_free (other side) model.now (is_deleted gone.old)) w.0 ≡ true }
-    ensures reduces { OnOk result (Reduces model.now deriv.old deriv.new gone.old gone.new) }
-    ensures more { OnOk result (IsOneMore gone.old gone.new w.0) }
-    ensures goes_on { GoesOn deriv.old deriv.new }
-    ensures few { MakesFew (pair_count model.now - deleted_count gone.old) deriv.old deriv.new }
+) -> Option<PairNo>
+    requires w { IsPairNo inst.now w.0 }
+    requires first { IfSome first (λ p. IsPairNo inst.now p.0) }
+    requires marked { AreRising side inst.now (is_marked (marks_on (other side) known.now)) (pairs_on side inst.now (list_of side inst.now w.0)) marked.now }
+    ensures { (ps : List ℕ) → FirstOf side inst.now known.now (list_of side inst.now w.0) ps first → FirstOf side inst.now known.now (list_of side inst.now w.0) (ps ++ w.0 ∷ []) result }
 {
-    match side {
-        Side::Resident => {
-            delete_by_rule_a(alloc, model, deriv, gone, w)?;
-            Ok(())
-        }
-        Side::Hospital => {
-            delete_by_rule_b(alloc, model, deriv, gone, w)?;
-            Ok(())
-        }
+    let most = places(inst, side, list_of(inst, side, w));
+    let rank = rank_on(inst, side, w);
+    if known.gone.is_gone(w) {
+        return first;
     }
+    if !are_within(marked, most, rank - 1) {
+        return first;
+    }
+    let Some(p) = first else {
+        return Some(w);
+    };
+    if rank_on(inst, side, p) <= rank {
+        return Some(p);
+    }
+    Some(w)
+}
+
+/// The first by rank of the pairs of a list that are to be deleted.
+fn first_due(
+    inst: &Instance,
+    known: &Known,
+    side: Side,
+    ranks: &[u32],
+    n: u32,
+) -> Option<PairNo>
+    requires n { n < list_count side inst.now }
+    requires ranks { AreRising side inst.now (is_marked (marks_on (other side) known.now)) (pairs_on side inst.now n) ranks.now }
+    ensures { FirstOf side inst.now known.now n (pairs_on side inst.now n) result }
+{
+    let pairs = pairs_on(inst, side, n);
+    let mut first: Option<PairNo> = None;
+    for w in pairs {
+        first = sooner(inst, known, side, ranks, first, *w);
+    }
+    first
 }
 
 /// Deletes a pair if the marked pairs of its list pass it. Its list on the other side waits then.
@@ -65,10 +87,13 @@ fn delete_if_passed(
     requires w { IsPairNo model.now w.0 }
     requires visited { is_waiting (waiting_on side known.old) (list_of side model.now w.0) ≡ true }
     requires ranks { AreRising side model.now (is_marked (marks_on (other side) known.old)) (pairs_on side model.now (list_of side model.now w.0)) ranks.now }
+    requires served { IsDue side model.now known.old (list_of side model.now w.0) w.0 → IsServed side model.now deriv.old.state.live w.0 }
+    requires room { HasRoom 1 model.now deriv.old known.old.gone }
     ensures reduces { OnOk result (Reduces model.now deriv.old deriv.new known.old.gone known.new.gone) }
     ensures tried { OnOk result (TriesDelete side model.now known.old known.new w.0) }
+    ensures ones { OnOk result (MakesOnes deriv.old deriv.new known.old.gone known.new.gone) }
     ensures goes_on { GoesOn deriv.old deriv.new }
-    ensures few { MakesFew (pair_count model.now - deleted_count known.old.gone) deriv.old deriv.new }
+    ensures few { deriv.new.state.next ≤ deriv.old.state.next + (pair_count model.now - deleted_count known.old.gone) }
 {
     let inst = model.instance();
     let most = places(inst, side, list_of(inst, side, w));
@@ -86,7 +111,42 @@ fn delete_if_passed(
     Ok(())
 }
 
-/// Deletes the passed pairs of a list.
+/// Deletes the passed pairs of the list of the first of them.
+fn delete_each_passed(
+    alloc: Global,
+    model: &Model,
+    deriv: &mut Derivation,
+    known: &mut Known,
+    side: Side,
+    ranks: &[u32],
+    first: PairNo,
+) -> Result<(), NoMemory>
+    requires can { CanReduce model.now deriv.old known.old.gone }
+    requires kept { IsKept model.now known.old }
+    requires first { IsFirst side model.now known.old (list_of side model.now first.0) (pairs_on side model.now (list_of side model.now first.0)) first.0 }
+    requires visited { is_waiting (waiting_on side known.old) (list_of side model.now first.0) ≡ true }
+    requires ranks { AreRising side model.now (is_marked (marks_on (other side) known.old)) (pairs_on side model.now (list_of side model.now first.0)) ranks.now }
+    requires served { IsServed side model.now deriv.old.state.live first.0 }
+    requires room { HasRoom 1 model.now deriv.old known.old.gone }
+    ensures reduces { OnOk result (Reduces model.now deriv.old deriv.new known.old.gone known.new.gone) }
+    ensures kept { OnOk result (IsKept model.now known.new) }
+    ensures rests { OnOk result (waiting_on side known.new ≡ waiting_on side known.old) }
+    ensures pays { OnOk result (Pays known.old known.new) }
+    ensures passed { OnOk result (ArePassed side model.now known.new (list_of side model.now first.0)) }
+    ensures ones { OnOk result (MakesOnes deriv.old deriv.new known.old.gone known.new.gone) }
+    ensures some { OnOk result (deleted_count known.old.gone < deleted_count known.new.gone) }
+    ensures goes_on { GoesOn deriv.old deriv.new }
+    ensures few { deriv.new.state.next ≤ deriv.old.state.next + (pair_count model.now - deleted_count known.old.gone) }
+{
+    let inst = model.instance();
+    let pairs = pairs_on(inst, side, list_of(inst, side, first));
+    for w in pairs {
+        delete_if_passed(alloc, model, deriv, known, side, ranks, *w)?;
+    }
+    Ok(())
+}
+
+/// Deletes the passed pairs of a list, by rows that are made once for all of them and forgotten after.
 fn delete_all_passed(
     alloc: Global,
     model: &Model,
@@ -99,6 +159,7 @@ fn delete_all_passed(
     requires kept { IsKept model.now known.old }
     requires n { n < list_count side model.now }
     requires waits { is_waiting (waiting_on side known.old) n ≡ true }
+    requires room { HasRoom 20001 model.now deriv.old known.old.gone }
     ensures reduces { OnOk result (Reduces model.now deriv.old deriv.new known.old.gone known.new.gone) }
     ensures kept { OnOk result (IsKept model.now known.new) }
     ensures waits { OnOk result (is_waiting (waiting_on side known.new) n ≡ true) }
@@ -109,10 +170,14 @@ fn delete_all_passed(
 {
     let inst = model.instance();
     let ranks = ranks_marked(alloc, inst, side, n, known.marks(other(side)))?;
-    let pairs = pairs_on(inst, side, n);
-    for w in pairs {
-        delete_if_passed(alloc, model, deriv, known, side, &ranks, *w)?;
-    }
+    let Some(first) = first_due(inst, known, side, &ranks, n) else {
+        return Ok(());
+    };
+    let _start = deriv.next();
+    let ids = serve(alloc, model, deriv, &known.gone, side, first)?;
+    let _mid = deriv.next();
+    delete_each_passed(alloc, model, deriv, known, side, &ranks, first)?;
+    forget(alloc, deriv, &ids)?;
     Ok(())
 }
 
@@ -192,6 +257,7 @@ pub(crate) fn visit(
     requires kept { IsKept model.now known.old }
     requires n { n < list_count side model.now }
     requires waits { is_waiting (waiting_on side known.old) n ≡ true }
+    requires room { HasRoom 20001 model.now deriv.old known.old.gone }
     ensures reduces { OnOk result (Reduces model.now deriv.old deriv.new known.old.gone known.new.gone) }
     ensures kept { OnOk result (IsKept model.now known.new) }
     ensures gains { OnOk result (Gains known.old known.new) }

@@ -4,15 +4,15 @@ use Rattle.rank_tables.specs.Instance.{Lists, pair_count}
 use Rattle.pair_reduction.specs.declared.known.Known.{Known}
 use Rattle.pair_reduction.specs.Flags.{is_waiting}
 use Rattle.pair_reduction.specs.Known.{IsKept, mark_count, waiting_count, waiting_on}
-use Rattle.pair_reduction.specs.Reduced.{CanReduce, Reduces}
+use Rattle.pair_reduction.specs.Reduced.{CanReduce, HasRoom, Reduces}
 use Rattle.pair_reduction.proofs.Offering.{goes_further}
-use Rattle.pair_reduction.proofs.Reducing.{are_gone, are_in_none, holds_units, reduces_first, reduces_more}
+use Rattle.pair_reduction.proofs.Reducing.{are_gone, are_in_none, holds_units, reduces_first, reduces_more, room_first, room_left}
 use Rattle.pair_reduction.proofs.Settling.{closed_when_settled, nearer}
 use Rattle.pair_reduction.proofs.reduction.reduce.Goals as goal
 
 pub visits-init : goal.visits-init
 visits-init c = record {
-  reduces = reduces_first c.args.model.now c.args.inst.now c.args.deriv.now (pair_count c.args.inst.now) c.in_ok-known.known.gone c.requires.model c.requires.inst c.requires.ready refl c.in_ok-known.ensures.gone c.requires.next;
+  reduces = reduces_first c.args.model.now c.args.inst.now c.args.deriv.now (pair_count c.args.inst.now) c.in_ok-known.known.gone c.requires.model c.requires.inst c.requires.ready refl c.in_ok-known.ensures.gone;
   kept = subst (λ (l : Lists). IsKept l c.in_ok-known.known) (c.requires.inst ∙ sym c.requires.model) c.in_ok-known.ensures.kept;
 }
 
@@ -31,6 +31,11 @@ pub returns-in_default-clause-holds : goal.returns-in_default-clause-holds
 returns-in_default-clause-holds c =
     holds_units c.args.model.now c.args.deriv.now c.visits.deriv c.next.new.self.gone (pair_count c.args.model.now)
     (subst (λ (k : Known). Reduces c.args.model.now c.args.deriv.now c.visits.deriv (replicate (pair_count c.args.model.now) None) k.gone) (sym c.next.ensures.same) c.visits.invariant.reduces)
+
+pub visit-requires-clause-room : goal.visit-requires-clause-room
+visit-requires-clause-room c =
+    subst (λ (k : Known). HasRoom 20001 c.args.model.now c.visits.deriv k.gone) (sym c.next.ensures.same)
+    (room_left c.args.model.now c.args.deriv.now c.visits.deriv (replicate (pair_count c.args.model.now) None) c.visits.known.gone c.visits.invariant.reduces (room_first c.args.model.now c.args.deriv.now c.requires.model c.requires.next))
 
 pub visits-smaller : goal.visits-smaller
 visits-smaller c =

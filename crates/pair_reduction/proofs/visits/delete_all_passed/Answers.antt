@@ -1,19 +1,115 @@
-use Rattle.std.proofs.Common.{ap, ◌∙◌}
-use Rattle.rank_tables.specs.Numbers.{is_in}
+use Rattle.std.proofs.Common.{◌≡◌, ℕ, ◌+◌, ◌-◌, ◌*◌, ◌<◌, ◌≤◌, true, List, length, ap, refl, sym, ◌∙◌, subst, arith}
+use Rattle.hrt_base.specs.declared.numbered.RowNo.{RowNo}
 use Rattle.rank_tables.specs.Instance.{Lists}
-use Rattle.pair_reduction.specs.Sides.{pairs_on}
-use Rattle.pair_reduction.proofs.Reducing.{reduces_more}
-use Rattle.pair_reduction.proofs.Tested.{next_number}
-use Rattle.pair_reduction.proofs.Visiting.{deleting_done, deleting_more}
+use Rattle.pair_reduction.specs.Flags.{is_waiting}
+use Rattle.pair_reduction.specs.Known.{ArePassed, waiting_on}
+use Rattle.pair_reduction.specs.Reduced.{CanForget, Forgets}
+use Rattle.pair_reduction.specs.Served.{IsFirst}
+use Rattle.pair_reduction.specs.Sides.{list_of, pairs_on}
+use Rattle.pair_reduction.proofs.Deleting.{can_forget, goes_so_far, reduces_with}
+use Rattle.pair_reduction.proofs.Offering.{goes_further, goes_same}
+use Rattle.pair_reduction.proofs.Reducing.{can_added, left_of}
+use Rattle.pair_reduction.proofs.Serving.{first_of, none_of, own_first}
+use Rattle.pair_reduction.proofs.Visiting.{marked_now, rule_of}
 use Rattle.pair_reduction.proofs.visits.delete_all_passed.Goals as goal
 
-pub loop-w-preserved : goal.loop-w-preserved
-loop-w-preserved c = record {
-  reduces = reduces_more c.args.model.now c.args.deriv.now c.loop-w.deriv c.delete_if_passed.new.deriv c.args.known.now.gone c.loop-w.known.gone c.delete_if_passed.new.known.gone c.loop-w.invariant.reduces c.in_ok-delete_if_passed.ensures.reduces;
-  deleting = deleting_more c.args.side c.args.model.now c.args.known.now c.loop-w.known c.delete_if_passed.new.known _ _ _ (next_number c.pairs_on-pairs.result.now c.loop-w.w-index _ c.loop-w-test.true) c.loop-w.invariant.deleting c.in_ok-delete_if_passed.ensures.tried;
-}
+pub returns-in_default-clause-passed : goal.returns-in_default-clause-passed
+returns-in_default-clause-passed c = none_of c.args.side c.instance-inst.result.now c.args.model.now c.args.known.now c.args.n c.first_due.result c.instance-inst.ensures c.in_default.is c.first_due.ensures
+
+pub serve-requires-clause-rule : goal.serve-requires-clause-rule
+serve-requires-clause-rule c =
+    let first : IsFirst c.args.side c.args.model.now c.args.known.now c.args.n (pairs_on c.args.side c.args.model.now c.args.n) c.in-Some.first.0 =
+    first_of c.args.side c.instance-inst.result.now c.args.model.now c.args.known.now c.args.n c.first_due.result c.in-Some.first c.instance-inst.ensures c.in-Some.is c.first_due.ensures in
+    rule_of c.args.side c.args.model.now c.args.known.now c.args.known.now c.in-Some.first.0 c.requires.kept refl first.due.passed
+
+pub serve-requires-clause-next : goal.serve-requires-clause-next
+serve-requires-clause-next c =
+    let first : IsFirst c.args.side c.args.model.now c.args.known.now c.args.n (pairs_on c.args.side c.args.model.now c.args.n) c.in-Some.first.0 =
+    first_of c.args.side c.instance-inst.result.now c.args.model.now c.args.known.now c.args.n c.first_due.result c.in-Some.first c.instance-inst.ensures c.in-Some.is c.first_due.ensures in
+    let left = left_of c.args.model.now c.args.deriv.now c.args.known.now.gone c.in-Some.first.0 c.requires.can first.due.number first.due.left in
+    omega (arith, c.requires.room, left)
+
+pub delete_each_passed-requires-clause-can : goal.delete_each_passed-requires-clause-can
+delete_each_passed-requires-clause-can c = can_added c.args.model.now c.args.deriv.now c.serve.new.deriv c.args.known.now.gone (length c.in_ok-ids.ids.items) c.requires.can c.in_ok-ids.ensures.adds
+
+pub delete_each_passed-requires-clause-first : goal.delete_each_passed-requires-clause-first
+delete_each_passed-requires-clause-first c = own_first c.args.side c.args.model.now c.args.known.now c.args.n c.in-Some.first.0 (first_of c.args.side c.instance-inst.result.now c.args.model.now c.args.known.now c.args.n c.first_due.result c.in-Some.first c.instance-inst.ensures c.in-Some.is c.first_due.ensures)
+
+pub delete_each_passed-requires-clause-ranks : goal.delete_each_passed-requires-clause-ranks
+delete_each_passed-requires-clause-ranks c =
+    let first : IsFirst c.args.side c.args.model.now c.args.known.now c.args.n (pairs_on c.args.side c.args.model.now c.args.n) c.in-Some.first.0 =
+    first_of c.args.side c.instance-inst.result.now c.args.model.now c.args.known.now c.args.n c.first_due.result c.in-Some.first c.instance-inst.ensures c.in-Some.is c.first_due.ensures in
+    marked_now c.args.side c.instance-inst.result.now c.args.model.now c.args.known.now c.args.known.now c.other.result c.marks.result.now c.args.n c.in-Some.first.0 c.in_ok-ranks.ranks.items c.deref-2.result.now c.instance-inst.ensures c.other.ensures c.marks.ensures (λ s. refl)
+    (ap (λ (l : Lists). list_of c.args.side l c.in-Some.first.0) c.instance-inst.ensures ∙ first.due.list) c.deref-2.ensures.value c.in_ok-ranks.ensures
+
+pub delete_each_passed-requires-clause-visited : goal.delete_each_passed-requires-clause-visited
+delete_each_passed-requires-clause-visited c =
+    let first : IsFirst c.args.side c.args.model.now c.args.known.now c.args.n (pairs_on c.args.side c.args.model.now c.args.n) c.in-Some.first.0 =
+    first_of c.args.side c.instance-inst.result.now c.args.model.now c.args.known.now c.args.n c.first_due.result c.in-Some.first c.instance-inst.ensures c.in-Some.is c.first_due.ensures in
+    subst (λ (k : ℕ). is_waiting (waiting_on c.args.side c.args.known.now) k ≡ true) (sym first.due.list) c.requires.waits
+
+pub delete_each_passed-requires-clause-room : goal.delete_each_passed-requires-clause-room
+delete_each_passed-requires-clause-room c =
+    let first : IsFirst c.args.side c.args.model.now c.args.known.now c.args.n (pairs_on c.args.side c.args.model.now c.args.n) c.in-Some.first.0 =
+    first_of c.args.side c.instance-inst.result.now c.args.model.now c.args.known.now c.args.n c.first_due.result c.in-Some.first c.instance-inst.ensures c.in-Some.is c.first_due.ensures in
+    let left = left_of c.args.model.now c.args.deriv.now c.args.known.now.gone c.in-Some.first.0 c.requires.can first.due.number first.due.left in
+    omega (arith, c.requires.room, left, c.in_ok-ids.ensures.next)
+
+pub forget-requires-clause-can : goal.forget-requires-clause-can
+forget-requires-clause-can c =
+    subst (λ (xs : List RowNo). CanForget xs c.delete_each_passed.new.deriv) (sym c.deref-3.ensures.value)
+    (can_forget c.args.model.now c.args.deriv.now c.serve.new.deriv c.delete_each_passed.new.deriv c.args.known.now.gone c.delete_each_passed.new.known.gone c.in_ok-ids.ids.items c.requires.can c.next-start.ensures.in_order
+    c.in_ok-ids.ensures.adds c.in_ok-ids.ensures.made c.next-mid.ensures.in_order c.in_ok-delete_each_passed.ensures.reduces)
+
+pub returns-in_err-ids-clause-few : goal.returns-in_err-ids-clause-few
+returns-in_err-ids-clause-few c =
+    let first : IsFirst c.args.side c.args.model.now c.args.known.now c.args.n (pairs_on c.args.side c.args.model.now c.args.n) c.in-Some.first.0 =
+    first_of c.args.side c.instance-inst.result.now c.args.model.now c.args.known.now c.args.n c.first_due.result c.in-Some.first c.instance-inst.ensures c.in-Some.is c.first_due.ensures in
+    let left = left_of c.args.model.now c.args.deriv.now c.args.known.now.gone c.in-Some.first.0 c.requires.can first.due.number first.due.left in
+    omega (arith, left, c.in_err-ids.ensures.next)
+
+pub returns-in_err-delete_each_passed-clause-goes_on : goal.returns-in_err-delete_each_passed-clause-goes_on
+returns-in_err-delete_each_passed-clause-goes_on c = goes_further c.args.deriv.now c.serve.new.deriv c.delete_each_passed.new.deriv c.in_ok-ids.ensures.goes_on c.in_err-delete_each_passed.ensures.goes_on
+
+pub returns-in_err-delete_each_passed-clause-few : goal.returns-in_err-delete_each_passed-clause-few
+returns-in_err-delete_each_passed-clause-few c =
+    let first : IsFirst c.args.side c.args.model.now c.args.known.now c.args.n (pairs_on c.args.side c.args.model.now c.args.n) c.in-Some.first.0 =
+    first_of c.args.side c.instance-inst.result.now c.args.model.now c.args.known.now c.args.n c.first_due.result c.in-Some.first c.instance-inst.ensures c.in-Some.is c.first_due.ensures in
+    let left = left_of c.args.model.now c.args.deriv.now c.args.known.now.gone c.in-Some.first.0 c.requires.can first.due.number first.due.left in
+    omega (arith, left, c.in_ok-ids.ensures.next, c.in_err-delete_each_passed.ensures.few)
+
+pub returns-in_err-forget-clause-goes_on : goal.returns-in_err-forget-clause-goes_on
+returns-in_err-forget-clause-goes_on c =
+    goes_further c.args.deriv.now c.delete_each_passed.new.deriv c.forget.new.deriv
+    (goes_so_far c.args.model.now c.args.deriv.now c.serve.new.deriv c.delete_each_passed.new.deriv c.args.known.now.gone c.delete_each_passed.new.known.gone c.in_ok-ids.ids.items c.requires.can c.next-start.ensures.in_order
+    c.in_ok-ids.ensures.adds c.in_ok-ids.ensures.made c.next-mid.ensures.in_order c.in_ok-delete_each_passed.ensures.reduces)
+    (goes_same c.delete_each_passed.new.deriv c.forget.new.deriv c.in_err-forget.ensures.same)
+
+pub returns-clause-goes_on : goal.returns-clause-goes_on
+returns-clause-goes_on c =
+    let gone : Forgets c.in_ok-ids.ids.items c.delete_each_passed.new.deriv c.forget.new.deriv = subst (λ (xs : List RowNo). Forgets xs c.delete_each_passed.new.deriv c.forget.new.deriv) c.deref-3.ensures.value c.in_ok-forget.ensures.forgets in
+    goes_further c.args.deriv.now c.delete_each_passed.new.deriv c.forget.new.deriv
+    (goes_so_far c.args.model.now c.args.deriv.now c.serve.new.deriv c.delete_each_passed.new.deriv c.args.known.now.gone c.delete_each_passed.new.known.gone c.in_ok-ids.ids.items c.requires.can c.next-start.ensures.in_order
+    c.in_ok-ids.ensures.adds c.in_ok-ids.ensures.made c.next-mid.ensures.in_order c.in_ok-delete_each_passed.ensures.reduces)
+    gone.goes_on
+
+pub returns-clause-reduces : goal.returns-clause-reduces
+returns-clause-reduces c =
+    let gone : Forgets c.in_ok-ids.ids.items c.delete_each_passed.new.deriv c.forget.new.deriv = subst (λ (xs : List RowNo). Forgets xs c.delete_each_passed.new.deriv c.forget.new.deriv) c.deref-3.ensures.value c.in_ok-forget.ensures.forgets in
+    reduces_with c.args.model.now c.args.deriv.now c.serve.new.deriv c.delete_each_passed.new.deriv c.args.known.now.gone c.delete_each_passed.new.known.gone c.in_ok-ids.ids.items c.requires.can c.next-start.ensures.in_order
+    c.in_ok-ids.ensures.adds c.in_ok-ids.ensures.made c.next-mid.ensures.in_order c.in_ok-delete_each_passed.ensures.reduces
+    c.forget.new.deriv gone (omega (arith, gone.next, c.in_ok-delete_each_passed.ensures.ones, c.in_ok-delete_each_passed.ensures.some, c.in_ok-ids.ensures.next))
 
 pub returns-clause-passed : goal.returns-clause-passed
 returns-clause-passed c =
-    deleting_done c.args.side c.args.model.now c.args.known.now c.loop-w.known c.args.n c.loop-w.w-index c.pairs_on-pairs.result.now c.loop-w-test.false
-    (λ q. c.pairs_on-pairs.ensures.same q ∙ ap (λ (l : Lists). is_in q (pairs_on c.args.side l c.args.n)) c.instance-inst.ensures) c.loop-w.invariant.deleting
+    let first : IsFirst c.args.side c.args.model.now c.args.known.now c.args.n (pairs_on c.args.side c.args.model.now c.args.n) c.in-Some.first.0 =
+    first_of c.args.side c.instance-inst.result.now c.args.model.now c.args.known.now c.args.n c.first_due.result c.in-Some.first c.instance-inst.ensures c.in-Some.is c.first_due.ensures in
+    subst (ArePassed c.args.side c.args.model.now c.delete_each_passed.new.known) first.due.list c.in_ok-delete_each_passed.ensures.passed
+
+pub returns-clause-few : goal.returns-clause-few
+returns-clause-few c =
+    let gone : Forgets c.in_ok-ids.ids.items c.delete_each_passed.new.deriv c.forget.new.deriv = subst (λ (xs : List RowNo). Forgets xs c.delete_each_passed.new.deriv c.forget.new.deriv) c.deref-3.ensures.value c.in_ok-forget.ensures.forgets in
+    let first : IsFirst c.args.side c.args.model.now c.args.known.now c.args.n (pairs_on c.args.side c.args.model.now c.args.n) c.in-Some.first.0 =
+    first_of c.args.side c.instance-inst.result.now c.args.model.now c.args.known.now c.args.n c.first_due.result c.in-Some.first c.instance-inst.ensures c.in-Some.is c.first_due.ensures in
+    let left = left_of c.args.model.now c.args.deriv.now c.args.known.now.gone c.in-Some.first.0 c.requires.can first.due.number first.due.left in
+    omega (arith, left, gone.next, c.in_ok-ids.ensures.next, c.in_ok-delete_each_passed.ensures.few)

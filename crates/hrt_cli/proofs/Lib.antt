@@ -1,4 +1,5 @@
 mod AuditedPairs
+mod BegunPorts
 mod Codes
 mod FewTerms
 mod JudgedProofs

@@ -3,6 +3,7 @@ ghost use Rattle.std.specs.Prelude.{◌≡◌, Some, IfOk, IfErr, OnOk, OnErr, I
 ghost use Rattle.hrt_base.specs.Calls.{AtStart, Rose};
 ghost use Rattle.opb_text.specs.Spelling.{model_text};
 ghost use Rattle.hrt_cli.specs.Answers.{EndsEarly, IsAnswer, IsWorked};
+ghost use Rattle.hrt_cli.specs.Ports.{ReadsInputs, WritesOutputs};
 ghost use Rattle.hrt_cli.specs.Reports.{model_report};
 ghost use Rattle.hrt_cli.specs.Requests.{model};
 ghost use Rattle.hrt_cli.specs.Verdicts.{modeled};
@@ -26,6 +27,8 @@ pub fn model<H: Host>(
     requires { AtStart H.told (H.world host.old) }
     ensures worked { IfOk result (λ answer. IsWorked H.told (Some (model instance.now file.now)) answer (H.world host.old) (H.world host.new)) }
     ensures ended { IfErr result (λ ended. EndsEarly H.told (Some (model instance.now file.now)) ended (H.world host.old) (H.world host.new)) }
+    ensures inputs { ReadsInputs H.told (Some (model instance.now file.now)) (H.world host.old) (H.world host.new) }
+    ensures outputs { WritesOutputs H.told (Some (model instance.now file.now)) (H.world host.old) (H.world host.new) }
 {
     match load(alloc, host, instance, Limit::Pairs) {
         Ok(inst) => modeled(alloc, host, file, &inst),

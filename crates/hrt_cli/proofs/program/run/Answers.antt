@@ -6,12 +6,12 @@ use Rattle.hrt_cli.proofs.PrintedClaims.{claim, sizes}
 use Rattle.hrt_cli.proofs.program.run.Goals as goal
 
 pub returns-clause-sizes : goal.returns-clause-sizes
-returns-clause-sizes g c = λ t e i p is. sizes _ _ _ _ _ c.carry_out.ensures t (sym c.code.ensures ∙ e) i p is
+returns-clause-sizes g c = λ t e i p is. sizes _ _ _ _ _ c.carry_out.ensures.ends t (sym c.code.ensures ∙ e) i p is
 
 pub returns-clause-claim : goal.returns-clause-claim
-returns-clause-claim g c = λ t e m p is. claim _ _ _ _ _ c.carry_out.ensures t (sym c.code.ensures ∙ e) m p is
+returns-clause-claim g c = λ t e m p is. claim _ _ _ _ _ c.carry_out.ensures.ends t (sym c.code.ensures ∙ e) m p is
 
 pub returns-clause-decided : goal.returns-clause-decided
 returns-clause-decided g c = λ t has.
     subst (λ (n : ℕ). IsDecided (request_of (texts_of c.args.words.now)) n (g.H.Host.world c.args.host.now) (g.H.Host.world c.carry_out.new.host)) (sym c.code.ensures)
-    (decided _ _ _ _ _ c.carry_out.ensures t (ap has_report (sym c.code.ensures) ∙ has))
+    (decided _ _ _ _ _ c.carry_out.ensures.ends t (ap has_report (sym c.code.ensures) ∙ has))

@@ -5,6 +5,7 @@ mod FewTerms
 mod JudgedProofs
 mod OneVerdict
 mod Ports
+mod PrintedAudits
 mod PrintedClaims
 mod ProofFiles
 mod ReadModels

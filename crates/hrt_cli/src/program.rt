@@ -1,11 +1,11 @@
 // A whole run.
-ghost use Rattle.std.specs.Prelude.{◌≡◌, ◌⊎◌, ℕ, List, true, IfOk, IfErr, OnOk, OnErr, Some, None};
+ghost use Rattle.std.specs.Prelude.{◌≡◌, ◌⊎◌, ◌==◌, ℕ, List, true, IfOk, IfErr, OnOk, OnErr, Some, None};
 ghost use Rattle.hrt_base.specs.declared.port.Port.{Port};
 ghost use Rattle.hrt_base.specs.Calls.{AtStart, Rose, SentPart};
 ghost use Rattle.hrt_cli.specs.Answers.{EndsEarly, IsCutShort, IsWorked, LeavesFronts, SendsNothing};
 ghost use Rattle.hrt_cli.specs.Ports.{ReadsInputs, WritesOutputs};
-ghost use Rattle.hrt_cli.specs.Requests.{asked_by, check, model, request_of, solve, texts_of, verify};
-ghost use Rattle.hrt_cli.specs.Runs.{EndsAs, IsComplete, IsDecided, IsDue, IsSentWhole, KeepsFiles, KeepsOthers, PrintsBest, PrintsClaim, PrintsSizes, WritesModel, has_report, is_code, keeps_files};
+ghost use Rattle.hrt_cli.specs.Requests.{asked_by, audit, check, model, request_of, solve, texts_of, verify};
+ghost use Rattle.hrt_cli.specs.Runs.{EndsAs, IsComplete, IsDecided, IsDue, IsSentWhole, KeepsFiles, KeepsOthers, PrintsAudit, PrintsBest, PrintsClaim, PrintsSizes, WritesModel, has_report, is_code, keeps_files};
 
 use crate::auditing::audit;
 use crate::checking::check;
@@ -23,6 +23,7 @@ use std::alloc::Global;
 pub fn run<H: Host>(alloc: Global, words: &[String], host: &mut H) -> u8
     requires { AtStart H.told (H.world host.old) }
     ensures best { H.told → result ≡ 0 → (instance : List ℕ) → request_of (texts_of words.now) ≡ Some (solve instance) → PrintsBest instance (H.world host.old).content (H.world host.new).content }
+    ensures audited { H.told → (result ≡ 0) ⊎ (result ≡ 9) → (instance pairs : List ℕ) → request_of (texts_of words.now) ≡ Some (audit instance pairs) → PrintsAudit instance pairs (result == 0) (H.world host.old).content (H.world host.new).content }
     ensures model { H.told → result ≡ 0 → (instance file : List ℕ) → request_of (texts_of words.now) ≡ Some (model instance file) → WritesModel instance file (H.world host.old).content (H.world host.new).content }
     ensures sizes { H.told → result ≡ 0 → (instance proof : List ℕ) → request_of (texts_of words.now) ≡ Some (verify instance proof) → PrintsSizes instance (H.world host.old).content (H.world host.new).content }
     ensures claim { H.told → result ≡ 0 → (model proof : List ℕ) → request_of (texts_of words.now) ≡ Some (check model proof) → PrintsClaim model (H.world host.old).content (H.world host.new).content }

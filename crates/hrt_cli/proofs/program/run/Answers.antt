@@ -2,6 +2,7 @@ use Rattle.std.proofs.Common.{ℕ, sym, ap, ◌∙◌, subst}
 use Rattle.hrt_cli.specs.Requests.{request_of, texts_of}
 use Rattle.hrt_cli.specs.Runs.{IsDecided, has_report}
 use Rattle.hrt_cli.proofs.Codes.{decided}
+use Rattle.hrt_cli.proofs.PrintedAudits.{audits}
 use Rattle.hrt_cli.proofs.PrintedClaims.{claim, sizes}
 use Rattle.hrt_cli.proofs.program.run.Goals as goal
 
@@ -15,3 +16,6 @@ pub returns-clause-decided : goal.returns-clause-decided
 returns-clause-decided g c = λ t has.
     subst (λ (n : ℕ). IsDecided (request_of (texts_of c.args.words.now)) n (g.H.Host.world c.args.host.now) (g.H.Host.world c.carry_out.new.host)) (sym c.code.ensures)
     (decided _ _ _ _ _ c.carry_out.ensures.ends t (ap has_report (sym c.code.ensures) ∙ has))
+
+pub returns-clause-audited : goal.returns-clause-audited
+returns-clause-audited g c = λ t e i q is. audits _ _ _ _ _ _ c.carry_out.ensures.ends t c.code.ensures e i q is

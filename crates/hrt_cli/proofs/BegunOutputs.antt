@@ -1,5 +1,5 @@
 -- Outputs that are begun, and written in part or whole.
-use Rattle.std.proofs.Common.{◌≡◌, ◌⊎◌, ℕ, List, [], ◌∷◌, ◌++◌, length, take, refl, sym, ◌∙◌, ap, subst, arith, inl, inr}
+use Rattle.std.proofs.Common.{◌≡◌, ◌⊎◌, ℕ, List, [], ◌∷◌, length, take, refl, sym, ◌∙◌, ap, subst, arith, inl, inr}
 use Rattle.std.proofs.lemmas.List.{length-map, take_all}
 use Rattle.hrt_base.specs.declared.numbered.PairNo.{PairNo}
 use Rattle.hrt_base.specs.declared.port.Port.{Port}
@@ -16,7 +16,7 @@ use Rattle.hrt_solve.specs.declared.ends.BoundEnd.{BoundEnd}
 use Rattle.hrt_solve.specs.declared.ends.SolveEnd.{SolveEnd}
 use Rattle.hrt_solve.specs.Gauged.{bound_claim, found_claim}
 use Rattle.hrt_solve.specs.Writing.{IsBounded, IsProof, IsSolvedQuickly, SentBoth, SentFrontBehind, StopsWriting}
-use Rattle.hrt_cli.specs.Outputs.{Output, both, files_after, fronts, output, text_on}
+use Rattle.hrt_cli.specs.Outputs.{Output, both, output, text_on}
 use Rattle.hrt_cli.specs.Verdicts.{first_claim}
 use Rattle.hrt_cli.specs.Writing.{AreBegun, IsWritten, SavesInPart, SavesProof, Writes, WritesAll, WritesFronts, WritesNothing}
 

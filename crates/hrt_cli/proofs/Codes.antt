@@ -224,7 +224,7 @@ kept_unwritten : (request : Option Request) (status : Status) (old new : World) 
 kept_unwritten request status old new other open_too told_of name =
     told_of.sends.files name
     ∙ ap (λ (outputs : List Output). files_after outputs old.content.file name)
-      (none_written request told_of.verdict (λ e. other (told_of.answered ∙ e)) (λ e. open_too (told_of.answered ∙ e)))
+    (none_written request told_of.verdict (λ e. other (told_of.answered ∙ e)) (λ e. open_too (told_of.answered ∙ e)))
 
 pub files_kept : (told : Type 0) (request : Option Request) (status : Status) (old new : World) → EndsAs told request status old new → told → keeps_files (code_of status) ≡ true → KeepsFiles old.content new.content
 files_kept told request ReadFault old new ends t e = (ends.nothing t).files

@@ -52,8 +52,8 @@ one_deleted : (lists : Lists) (d t e u : ℕ) → AreNumbersOf lists d t → Are
 one_deleted lists d t e u first second =
     first.deleted_is
     ∙ count_same_in first.gone second.gone (numbers_to (pair_count lists)) (λ p i.
-        let no = pair_in lists p i in
-        same_bools (first.gone p) (second.gone p) (λ x. second.are.all p (first.are.each p no x)) (λ x. first.are.all p (second.are.each p no x)))
+    let no = pair_in lists p i in
+    same_bools (first.gone p) (second.gone p) (λ x. second.are.all p (first.are.each p no x)) (λ x. first.are.all p (second.are.each p no x)))
     ∙ sym second.deleted_is
 
 one_ceiling : (lists : Lists) (d t e u : ℕ) → AreNumbersOf lists d t → AreNumbersOf lists e u → t ≡ u

@@ -1,5 +1,5 @@
 -- What the commands that write a model and a proof of it come to.
-use Rattle.std.proofs.Common.{◌≡◌, ◌⊎◌, ◌==◌, ℕ, Bool, true, false, cond, List, [], ◌++◌, length, flat_map, codes, Option, Some, None, Result, Ok, Err, IfErr, IfOk, IsTrue, refl, sym, ◌∙◌, ap, subst, inl, inr}
+use Rattle.std.proofs.Common.{◌≡◌, ◌==◌, ℕ, Bool, true, false, cond, List, ◌++◌, length, flat_map, codes, Option, Some, Result, Ok, Err, IfErr, IfOk, IsTrue, refl, sym, ◌∙◌, ap, subst, inl, inr}
 use Rattle.std.proofs.lemmas.List.{length-map}
 use Rattle.hrt_base.specs.declared.failure.WriteEnd.{WriteEnd}
 use Rattle.hrt_base.specs.declared.failure.WriteEnd.TheVariants as end
@@ -15,16 +15,15 @@ use Rattle.hrt_solve.specs.Gauged.{AreNumbersOf, bound_claim}
 use Rattle.hrt_solve.specs.Writing.{IsBoundText, IsProof, IsQuickEnd, IsQuickText}
 use Rattle.hrt_cli.specs.declared.answer.Answer.{Answer}
 use Rattle.hrt_cli.specs.declared.limit.Limit.TheVariants as limit
-use Rattle.hrt_cli.specs.declared.status.Status.{Status}
 use Rattle.hrt_cli.specs.declared.status.Status.TheVariants as status
 use Rattle.hrt_cli.specs.declared.stop.Ended.{Ended}
 use Rattle.hrt_cli.specs.declared.stop.Ended.TheVariants as ended
-use Rattle.hrt_cli.specs.Answers.{EndsEarly, HasOutputs, IsAnswer, IsTaken, IsWorked, LeavesFronts, is_on_files}
+use Rattle.hrt_cli.specs.Answers.{EndsEarly, HasOutputs, IsAnswer, IsWorked, LeavesFronts, is_on_files}
 use Rattle.hrt_cli.specs.Loading.{IsLoaded}
 use Rattle.hrt_cli.specs.Outputs.{Output, both, outputs_of}
 use Rattle.hrt_cli.specs.Reports.{count_line, end_lines, found_lines, last_line, line, pair_line}
 use Rattle.hrt_cli.specs.Requests.{Request, bound, quick}
-use Rattle.hrt_cli.specs.Verdicts.{BoundDue, ComesTo, Files, MatchDue, OnInstance, OnLists, ProofDue, Rejection, Verdict, bounded, first_claim, lists_in, matched, of_few_terms, rejected, status_of, within}
+use Rattle.hrt_cli.specs.Verdicts.{BoundDue, ComesTo, Files, IsTaken, MatchDue, OnInstance, OnLists, ProofDue, Rejection, Verdict, bounded, first_claim, lists_in, matched, of_few_terms, rejected, status_of, within}
 use Rattle.hrt_cli.specs.Writing.{SavesFronts, SavesInPart, SavesProof, WritesAll, WritesFronts, ended_by}
 use Rattle.hrt_cli.proofs.WrittenOutputs.{Writer, nothing_left, outputs_end, outputs_left, outputs_worked}
 

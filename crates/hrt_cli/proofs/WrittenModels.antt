@@ -1,5 +1,5 @@
 -- What the command that writes the model comes to.
-use Rattle.std.proofs.Common.{◌≡◌, ◌⊎◌, ℕ, true, List, [], ◌∷◌, Option, Some, None, Result, Ok, Err, IfErr, IfOk, OnOk, option_map, refl, sym, ◌∙◌, ap, subst, arith, inl, inr}
+use Rattle.std.proofs.Common.{◌≡◌, ℕ, true, List, [], ◌∷◌, Option, Some, None, Result, Ok, Err, IfErr, IfOk, OnOk, option_map, refl, sym, ◌∙◌, ap, subst, arith, inl, inr}
 use Rattle.hrt_base.specs.declared.port.Port.TheVariants.{Model, Report}
 use Rattle.hrt_base.specs.Calls.{AtStart, Rose}
 use Rattle.hrt_base.specs.World.{World}

@@ -50,7 +50,7 @@ three first second third = record { first = first; second = second; third = thir
 abbrev pub three_files : List (List ℕ) → Option ThreeFiles
 three_files (first ∷ second ∷ third ∷ []) =
     if is_file_name first && is_file_name second && is_file_name third && not (bytes_eq first second) && not (bytes_eq first third)
-        && not (bytes_eq second third)
+    && not (bytes_eq second third)
     then Some (three first second third) else None
 three_files _ = None
 

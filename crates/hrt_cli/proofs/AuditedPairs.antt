@@ -1,5 +1,5 @@
 -- What the command that audits pairs comes to.
-use Rattle.std.proofs.Common.{◌≡◌, ◌⊎◌, ◌↔◌, ◌<◌, ◌==◌, ◌||◌, ◌&&◌, ℕ, Bool, true, false, cond, nat_le, List, [], ◌∷◌, length, All, Option, Some, None, Result, option_map, IsTrue, refl, sym, ◌∙◌, ap, subst, inl, inr, eq-eqb}
+use Rattle.std.proofs.Common.{◌≡◌, ◌⊎◌, ◌↔◌, ◌<◌, ◌==◌, ◌||◌, ◌&&◌, ℕ, Bool, true, false, cond, nat_le, List, [], ◌∷◌, length, All, Option, Some, None, Result, Ok, Err, IfOk, option_map, IsTrue, refl, sym, ◌∙◌, ap, subst, inl, inr, eq-eqb}
 use Rattle.std.specs.List.{find}
 use Rattle.std.proofs.lemmas.Bool.{and_from, and_parts, leb-true, le-leb, ltb-true, or_left, or_right}
 use Rattle.std.proofs.lemmas.List.Elements.{All-weaker}
@@ -22,8 +22,11 @@ use Rattle.hrt_cli.specs.declared.limit.Limit.{Limit}
 use Rattle.hrt_cli.specs.declared.limit.Limit.TheVariants as limit
 use Rattle.hrt_cli.specs.declared.status.Status.{Status}
 use Rattle.hrt_cli.specs.declared.status.Status.TheVariants.{Done, AuditNo}
-use Rattle.hrt_cli.specs.Answers.{IsAnswer, IsAnswered, is_on_files}
-use Rattle.hrt_cli.specs.Loading.{ArePairsLoaded, ArePairsRejected, IsLoaded, IsRejected}
+use Rattle.hrt_cli.specs.declared.stop.Ended.{Ended}
+use Rattle.hrt_cli.specs.declared.stop.Stop.{Stop}
+use Rattle.hrt_cli.specs.declared.stop.Stop.TheVariants.{Refused, Exceeded, PairsRefused, ModelRefused, ProofRefused, ReadFault, NoMemory}
+use Rattle.hrt_cli.specs.Answers.{Explains, IsAnswer, IsAnswered, is_on_files}
+use Rattle.hrt_cli.specs.Loading.{ArePairsLoaded, ArePairsRejected, IsLoaded, IsRejected, StopsLoadingPairs}
 use Rattle.hrt_cli.specs.Reports.{NamesDeclared}
 use Rattle.hrt_cli.specs.Requests.{audit}
 use Rattle.hrt_cli.specs.Verdicts.{ComesTo, Rejection, Verdict, audit_status, audit_verdict, audited, exceeded, on_file, on_lists, rejected}
@@ -131,6 +134,26 @@ instance_rejected told i q rejection answer old new start read answered = record
       ap (λ (f : Option (List ℕ)). on_file f (old.content.file q)) text.1 ∙ ap (λ (r : Result Lists Rejection). on_lists r (old.content.file q)) text.2 in
       (rejected rejection, is, answered, reads_one told Instance old new (rejected rejection) start read.begun (passed_as rejection limit.InstanceBytes (new.content.rest Instance) (read.out t)));
 }
+
+pub pairs_answered : (told : Type 0) (i q : List ℕ) (lists : Lists) (pairs : List ℕ) (r : Result Answer Ended) (old mid new : World) → AtStart told old → IsLoaded told i limit.Pairs lists old mid
+    → ArePairsLoaded told q lists pairs mid new → IfOk r (λ answer. IsAnswer (audited lists pairs) answer) → IfOk r (λ answer. IsAnswered told (Some (audit i q)) answer old new)
+pairs_answered told i q lists pairs (Ok answer) old mid new start loaded read answered = audit_answered told i q lists pairs answer old mid new start loaded read answered
+pairs_answered told i q lists pairs (Err why) old mid new start loaded read answered = tt
+
+pairs_explained : (told : Type 0) (i q : List ℕ) (lists : Lists) (stop : Stop) (answer : Answer) (old mid new : World) → AtStart told old → IsLoaded told i limit.Pairs lists old mid
+    → StopsLoadingPairs told q lists stop mid new → Explains stop answer → IsAnswered told (Some (audit i q)) answer old new
+pairs_explained told i q lists (Refused kind line) answer old mid new start loaded stops tells = absurd stops
+pairs_explained told i q lists (Exceeded what) answer old mid new start loaded stops tells = pairs_rejected told i q lists (exceeded what) answer old mid new start loaded stops tells
+pairs_explained told i q lists (PairsRefused kind line) answer old mid new start loaded stops tells = pairs_rejected told i q lists _ answer old mid new start loaded stops tells
+pairs_explained told i q lists (ModelRefused kind line) answer old mid new start loaded stops tells = absurd stops
+pairs_explained told i q lists (ProofRefused refusal) answer old mid new start loaded stops tells = absurd stops
+pairs_explained told i q lists ReadFault answer old mid new start loaded stops tells = absurd tells
+pairs_explained told i q lists NoMemory answer old mid new start loaded stops tells = absurd tells
+
+pub pairs_stopped : (told : Type 0) (i q : List ℕ) (lists : Lists) (stop : Stop) (r : Result Answer Ended) (old mid new : World) → AtStart told old → IsLoaded told i limit.Pairs lists old mid
+    → StopsLoadingPairs told q lists stop mid new → IfOk r (Explains stop) → IfOk r (λ answer. IsAnswered told (Some (audit i q)) answer old new)
+pairs_stopped told i q lists stop (Ok answer) old mid new start loaded stops tells = pairs_explained told i q lists stop answer old mid new start loaded stops tells
+pairs_stopped told i q lists stop (Err why) old mid new start loaded stops tells = tt
 
 -- the status of what an audit says
 pub audit_status_is : (verdict : Audit) (b : Bool) → (verdict ≡ Stable) ↔ IsTrue b → audit_status verdict ≡ cond b Done AuditNo

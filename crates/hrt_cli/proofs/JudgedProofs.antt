@@ -1,5 +1,5 @@
 -- What the commands that check a proof come to.
-use Rattle.std.proofs.Common.{◌≡◌, ℕ, List, [], Option, Some, Result, Ok, Err, IfOk, IfSome, IsTrue, refl, sym, ◌∙◌, ap, subst, inl, inr}
+use Rattle.std.proofs.Common.{◌≡◌, ◌⊎◌, ℕ, List, [], Option, Some, Result, Ok, Err, IfOk, IfSome, IsTrue, refl, sym, ◌∙◌, ap, subst, inl, inr}
 use Rattle.hrt_base.specs.declared.port.Port.{Port}
 use Rattle.hrt_base.specs.declared.port.Port.TheVariants.{Instance, Model, Proof}
 use Rattle.hrt_base.specs.Calls.{AtStart}
@@ -20,11 +20,11 @@ use Rattle.hrt_cli.specs.declared.stop.Stop.TheVariants.{Refused, Exceeded, Pair
 use Rattle.hrt_cli.specs.Answers.{Explains, IsAnswer, IsAnswered, is_on_files}
 use Rattle.hrt_cli.specs.Inputs.{IsTooLong}
 use Rattle.hrt_cli.specs.Limits.{most}
-use Rattle.hrt_cli.specs.Loading.{IsLoaded}
+use Rattle.hrt_cli.specs.Loading.{IsLoaded, IsRejected, StopsLoading}
 use Rattle.hrt_cli.specs.Proofs.{IsFormulaRead, IsProofJudged, StopsProof}
 use Rattle.hrt_cli.specs.Requests.{Request, check, verify}
 use Rattle.hrt_cli.specs.Verdicts.{ComesTo, Files, OnFiles, OnFormula, ProofComesTo, Rejection, Verdict, checked, exceeded, formula_in, formula_of_instance, model_of, on_verdict, rejected, status_of, verified}
-use Rattle.hrt_cli.proofs.ReadOut.{reads_two, then_only_read}
+use Rattle.hrt_cli.proofs.ReadOut.{reads_one, reads_two, rejection_on_files, then_only_read}
 
 -- ---- a command by its two files
 
@@ -157,6 +157,41 @@ pub verify_accepted : (told : Type 0) (i p : List ℕ) (lists : Lists) (claim : 
     → IsProofJudged told p (formula lists) (text.Accepted claim) mid new → IfOk r (λ answer. IsAnswer (verified claim) answer) → IfOk r (λ answer. IsAnswered told (Some (verify i p)) answer old new)
 verify_accepted told i p lists claim r old mid new start loaded judged answered =
     proof_accepted told (verifying i p) (formula lists) claim r old mid new start (loaded_read told i lists old mid loaded) judged answered
+
+passed_as : (rejection : Rejection) (l : List ℕ) → (l ≡ []) ⊎ (rejection ≡ exceeded limit.InstanceBytes) → (l ≡ []) ⊎ (rejected rejection ≡ rejected (exceeded limit.InstanceBytes))
+passed_as rejection l (inl e) = inl e
+passed_as rejection l (inr e) = inr (ap rejected e)
+
+verify_rejected : (told : Type 0) (i p : List ℕ) (rejection : Rejection) (answer : Answer) (old new : World) → AtStart told old → IsRejected told i limit.Pairs rejection old new
+    → IsAnswer (rejected rejection) answer → IsAnswered told (Some (verify i p)) answer old new
+verify_rejected told i p rejection answer old new start read answered = record {
+  only_read = read.only_read;
+  on_files = subst (λ (s : Status). IsTrue (is_on_files s)) (sym answered.status) (rejection_on_files rejection);
+  due = λ t.
+      let text = read.due t in
+      let on : OnFormula verified (formula_of_instance text.0) (old.content.file p) (rejected rejection) =
+      subst (λ (r : Result Formula Rejection). OnFormula verified r (old.content.file p) (rejected rejection)) (sym (ap model_of text.2)) refl in (
+        rejected rejection,
+        (text.0, text.1, on),
+        answered,
+        reads_one told Instance old new (rejected rejection) start read.begun (passed_as rejection (new.content.rest Instance) (read.out t)),
+      );
+}
+
+instance_explained : (told : Type 0) (i p : List ℕ) (stop : Stop) (answer : Answer) (old new : World) → AtStart told old → StopsLoading told i limit.Pairs stop old new → Explains stop answer
+    → IsAnswered told (Some (verify i p)) answer old new
+instance_explained told i p (Refused kind line) answer old new start stops tells = verify_rejected told i p _ answer old new start stops tells
+instance_explained told i p (Exceeded what) answer old new start stops tells = verify_rejected told i p (exceeded what) answer old new start stops tells
+instance_explained told i p (PairsRefused kind line) answer old new start stops tells = absurd stops
+instance_explained told i p (ModelRefused kind line) answer old new start stops tells = absurd stops
+instance_explained told i p (ProofRefused refusal) answer old new start stops tells = absurd stops
+instance_explained told i p ReadFault answer old new start stops tells = absurd tells
+instance_explained told i p NoMemory answer old new start stops tells = absurd tells
+
+pub instance_stopped : (told : Type 0) (i p : List ℕ) (stop : Stop) (r : Result Answer Ended) (old new : World) → AtStart told old → StopsLoading told i limit.Pairs stop old new → IfOk r (Explains stop)
+    → IfOk r (λ answer. IsAnswered told (Some (verify i p)) answer old new)
+instance_stopped told i p stop (Ok answer) old new start stops tells = instance_explained told i p stop answer old new start stops tells
+instance_stopped told i p stop (Err why) old new start stops tells = tt
 
 -- ---- a model and a proof
 

@@ -1,11 +1,13 @@
 mod AuditedPairs
 mod BegunOutputs
+mod BegunPorts
 mod Codes
 mod FewTerms
 mod JudgedProofs
 mod NamedOutputs
 mod OneVerdict
 mod Ports
+mod PrintedAudits
 mod PrintedBounds
 mod PrintedClaims
 mod ProofFiles

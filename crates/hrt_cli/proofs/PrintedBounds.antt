@@ -20,13 +20,12 @@ use Rattle.hrt_solve.specs.Writing.{IsProof}
 use Rattle.hrt_cli.specs.declared.limit.Limit.TheVariants as limit
 use Rattle.hrt_cli.specs.declared.status.Status.{Status}
 use Rattle.hrt_cli.specs.declared.status.Status.TheVariants.{Done, Bounded}
-use Rattle.hrt_cli.specs.Answers.{IsTaken}
 use Rattle.hrt_cli.specs.Outputs.{SendsAll, both, outputs_of}
 use Rattle.hrt_cli.specs.Reports.{IsReport, count_line, last_line, line}
 use Rattle.hrt_cli.specs.Requests.{Request, audit, bound, check, model, quick, request_of, solve, verify}
 use Rattle.hrt_cli.specs.Runs.{EndsAs, Finishes, IsReported, PrintsBound, PrintsMatching, PrintsMet, PrintsOpen, WritesProofOf, has_report}
 use Rattle.hrt_cli.specs.Statuses.{code_of}
-use Rattle.hrt_cli.specs.Verdicts.{BoundDue, ComesTo, MatchDue, OnInstance, OnLists, Rejection, Verdict, exceeded, first_claim, lists_in, model_refused, of_few_terms, pairs_refused, proof_refused, refused, rejected, status_of, truncated, within}
+use Rattle.hrt_cli.specs.Verdicts.{BoundDue, ComesTo, IsTaken, MatchDue, OnInstance, OnLists, Rejection, Verdict, exceeded, first_claim, lists_in, model_refused, of_few_terms, pairs_refused, proof_refused, refused, rejected, status_of, truncated, within}
 use Rattle.hrt_cli.proofs.Codes.{rejected_not_done, reported, reported_or, taken_spelled, zero_has_report}
 use Rattle.hrt_cli.proofs.NamedOutputs.{AreApart, AreNamed, not_stored, outputs_named, stored}
 use Rattle.hrt_cli.proofs.OneVerdict.{some_is}
@@ -225,7 +224,7 @@ bounded_printed told texts status old new ends t e i m p is = open_told told tex
 
 -- ---- how such a command ends with an instance that is taken
 
-taken_due : (Due : Lists → Verdict → Type 0) (file : Option (List ℕ)) (verdict : Verdict) → OnInstance Due file verdict → (taken : IsTaken file) → Due taken.lists verdict
+taken_due : (Due : Lists → Verdict → Type 0) (file : Option (List ℕ)) (verdict : Verdict) → OnInstance Due file verdict → (taken : IsTaken file) → Due taken.value verdict
 taken_due Due file verdict on taken =
     let same : on.0 ≡ taken.bytes = some_is on.0 taken.bytes (sym on.1 ∙ taken.is_file) in
     subst (λ (r : Result Lists Rejection). OnLists Due r verdict) taken.taken
@@ -241,7 +240,7 @@ bound_ends i m p status old new told_of taken = let due = taken_due BoundDue (ol
 quick_ends : (i m p : List ℕ) (status : Status) (old new : World) → IsReported (Some (quick i m p)) status old new → IsTaken (old.content.file i) → (code_of status ≡ 0) ⊎ (code_of status ≡ 10)
 quick_ends i m p status old new told_of taken =
     let due = taken_due MatchDue (old.content.file i) told_of.verdict told_of.due taken in
-    one_of_two (length (promotion taken.lists) == due.top) status (told_of.answered ∙ ap status_of due.is)
+    one_of_two (length (promotion taken.value) == due.top) status (told_of.answered ∙ ap status_of due.is)
 
 or_later : (a b c : Type 0) → a ⊎ b → a ⊎ b ⊎ c
 or_later a b c (inl x) = inl x

@@ -14,12 +14,12 @@ use Rattle.hrt_cli.specs.declared.stop.Stop.{Stop}
 use Rattle.hrt_cli.specs.declared.stop.Stop.TheVariants.{Refused, Exceeded, PairsRefused, ModelRefused, ProofRefused, ReadFault, NoMemory}
 use Rattle.hrt_cli.specs.declared.stop.Ended.{Ended}
 use Rattle.hrt_cli.specs.declared.stop.Ended.TheVariants as ended
-use Rattle.hrt_cli.specs.Answers.{EndsEarly, EndsFor, Explains, HasOutputs, IsAnswer, IsTaken, IsWorked, LeavesFronts, PassedAt, is_on_files}
+use Rattle.hrt_cli.specs.Answers.{EndsEarly, EndsFor, Explains, HasOutputs, IsAnswer, IsWorked, LeavesFronts, PassedAt, is_on_files}
 use Rattle.hrt_cli.specs.Inputs.{OnlyRead}
 use Rattle.hrt_cli.specs.Loading.{IsLoaded, IsRejected, StopsLoading}
 use Rattle.hrt_cli.specs.Outputs.{Output, files_after, outputs_of}
 use Rattle.hrt_cli.specs.Requests.{Request}
-use Rattle.hrt_cli.specs.Verdicts.{ComesTo, Files, Rejection, Verdict, exceeded, lists_in, misused, of_few_terms, rejected, status_of, within}
+use Rattle.hrt_cli.specs.Verdicts.{ComesTo, Files, IsTaken, Rejection, Verdict, exceeded, lists_in, misused, of_few_terms, rejected, status_of, within}
 use Rattle.hrt_cli.specs.Writing.{Writes, WritesAll, WritesFronts, WritesNothing}
 use Rattle.hrt_cli.proofs.AuditedPairs.{passed_as}
 use Rattle.hrt_cli.proofs.ReadOut.{reads_one, rejection_on_files}
@@ -48,8 +48,9 @@ unpassed Report l (inr e) = absurd e
 unpassed ModelTwo l (inr e) = absurd e
 unpassed ProofTwo l (inr e) = absurd e
 
-is_taken : (told : Type 0) (i : List ℕ) (lists : Lists) (old mid : World) → IsLoaded told i limit.Pairs lists old mid → told → IsTaken (old.content.file i)
-is_taken told i lists old mid loaded t = let text = loaded.spelled t in record { bytes = text.0; is_file = text.1; lists = lists; taken = text.2 }
+-- an instance that was loaded is taken
+pub is_taken : (told : Type 0) (i : List ℕ) (lists : Lists) (old mid : World) → IsLoaded told i limit.Pairs lists old mid → told → IsTaken (old.content.file i)
+is_taken told i lists old mid loaded t = let text = loaded.spelled t in record { bytes = text.0; is_file = text.1; value = lists; taken = text.2 }
 
 module _ (told : Type 0) (i : List ℕ) (lists : Lists) (old mid : World) (start : AtStart told old) (loaded : IsLoaded told i limit.Pairs lists old mid) where
   -- the instance alone was read, to its end

@@ -1,18 +1,16 @@
 -- What a run answers for a verdict.
-use Rattle.std.specs.Prelude.{◌≡◌, ◌⊎◌, ◌≤◌, ℕ, Bool, true, false, IsTrue, List, [], take, Option, Some, None, IfSome, Ok}
+use Rattle.std.specs.Prelude.{◌≡◌, ◌⊎◌, ◌≤◌, ℕ, Bool, true, false, IsTrue, List, [], take, Option, Some, None, IfSome}
 use Rattle.hrt_base.specs.declared.port.Port.{Port}
 use Rattle.hrt_base.specs.declared.port.Port.TheVariants.{Instance, Pairs, Model, Proof, Report, ModelTwo, ProofTwo}
 use Rattle.hrt_base.specs.declared.host.Begun.TheVariants.{Reading, Writing}
 use Rattle.hrt_base.specs.World.{World, Content, port_no}
 use Rattle.hrt_base.specs.Calls.{Rose}
-use Rattle.rank_tables.specs.Instance.{Lists}
 use Rattle.hrt_reader.specs.Kinds.{number}
 use Rattle.hrt_reader.specs.PairsAnswer.{pairs_number}
 use Rattle.proof_lines.specs.declared.line.Claim.{Claim}
 use Rattle.proof_checker.specs.declared.refusal.ProofRefusal.{ProofRefusal}
 use Rattle.proof_checker.specs.Answers.{refusal_verdict}
 use Rattle.hrt_cli.specs.declared.limit.Limit.TheVariants.{InstanceBytes, PairsBytes, ModelBytes, ProofBytes}
-use Rattle.hrt_cli.specs.declared.limit.Limit.TheVariants as limit
 use Rattle.hrt_cli.specs.declared.answer.Answer.{Answer}
 use Rattle.hrt_cli.specs.declared.status.Status.{Status}
 use Rattle.hrt_cli.specs.declared.status.Status.TheVariants as status
@@ -25,7 +23,7 @@ use Rattle.hrt_cli.specs.Loading.{FailedToRead}
 use Rattle.hrt_cli.specs.Outputs.{SendsAll, SendsFronts, outputs_of}
 use Rattle.hrt_cli.specs.Reports.{IsReport}
 use Rattle.hrt_cli.specs.Requests.{Request, solve, audit, model, verify, check, bound, quick}
-use Rattle.hrt_cli.specs.Verdicts.{Verdict, rejected, refused, exceeded, pairs_refused, model_refused, ComesTo, Files, lists_in, of_few_terms, on_verdict, status_of, within}
+use Rattle.hrt_cli.specs.Verdicts.{Verdict, rejected, refused, exceeded, pairs_refused, model_refused, ComesTo, Files, IsTaken, on_verdict, status_of}
 
 -- a status that tells a verdict on the files
 abbrev pub is_on_files : Status → Bool
@@ -128,13 +126,6 @@ pub record SendsDue (request : Option Request) (old new : Content) : Type 0 wher
 pub record LeavesFronts (request : Option Request) (old new : Content) : Type 0 where
   pub silent : new.sent Report ≡ []
   pub sends : SendsNothing old new ⊎ SendsDue request old new
-
--- the file is an instance that is taken
-pub record IsTaken (file : Option (List ℕ)) : Type 0 where
-  pub bytes : List ℕ
-  pub is_file : file ≡ Some bytes
-  pub lists : Lists
-  pub taken : of_few_terms (within limit.Pairs (lists_in bytes)) ≡ Ok lists
 
 -- the command has outputs, and its inputs are taken
 abbrev pub HasOutputs : Option Request → Files → Type 0

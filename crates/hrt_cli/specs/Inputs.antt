@@ -1,5 +1,5 @@
 -- What reading files does to a host.
-use Rattle.std.specs.Prelude.{◌≡◌, ◌≤◌, ◌<◌, ◌↔◌, ℕ, List, [], length, Some}
+use Rattle.std.specs.Prelude.{◌≡◌, ◌⊎◌, ◌≤◌, ◌<◌, ◌↔◌, ℕ, List, [], length, Some}
 use Rattle.hrt_base.specs.declared.port.Port.{Port}
 use Rattle.hrt_base.specs.declared.host.Begun.TheVariants.{Reading, Writing}
 use Rattle.hrt_base.specs.World.{World, Content, put, with_rest}
@@ -28,3 +28,7 @@ pub record IsTooLong (told : Type 0) (port : Port) (name : List ℕ) (limit : �
   pub begun : new.begun ≡ put port Reading old.begun
   pub file : told → (bytes : List ℕ) × (old.content.file name ≡ Some bytes) × (limit < length bytes)
   pub content : told → new.content ≡ with_rest port (new.content.rest port) old.content
+
+-- this port was begun for reading, or none was begun
+pub record BeginsAtMost (port : Port) (old new : World) : Type 0 where
+  pub begun : (new.begun ≡ old.begun) ⊎ (new.begun ≡ put port Reading old.begun)

@@ -3,6 +3,7 @@ pub mod Inputs
 pub mod Limits
 pub mod Loading
 pub mod Outputs
+pub mod Ports
 pub mod Proofs
 pub mod Reports
 pub mod Requests

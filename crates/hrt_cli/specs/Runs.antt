@@ -16,16 +16,19 @@ use Rattle.proof_rules.specs.Sound.{IsTrueClaim}
 use Rattle.promotion_heuristic.specs.Promotion.{promotion}
 use Rattle.hrt_solve.specs.Gauged.{AreNumbersOf, IsMost, bound_claim, found_claim}
 use Rattle.hrt_solve.specs.Writing.{IsProof}
+use Rattle.hrt_text.specs.Text.{rows}
+use Rattle.hrt_reader.specs.PairsText.{pairs_of_rows, pairs_refusal}
 use Rattle.hrt_reader.specs.Refusal.{Spells}
+use Rattle.stability_audit.specs.Verdict.{verdict_of as audit_of}
 use Rattle.opb_text.specs.Refusal.{Spells as SpellsFormula}
 use Rattle.opb_text.specs.Spelling.{model_text}
-use Rattle.hrt_cli.specs.Answers.{CutShort, IsReadOut, IsTaken, LeavesFronts, SendsNothing}
+use Rattle.hrt_cli.specs.Answers.{CutShort, IsReadOut, LeavesFronts, SendsNothing}
 use Rattle.hrt_cli.specs.Outputs.{SendsAll, is_output_name, outputs_of}
-use Rattle.hrt_cli.specs.Reports.{IsReport, bound_report, check_report, count_line, line, match_lines, model_report, sizes_report, solve_report}
+use Rattle.hrt_cli.specs.Reports.{IsReport, audit_report, bound_report, check_report, count_line, line, match_lines, model_report, sizes_report, solve_report}
 use Rattle.hrt_cli.specs.Requests as ask
 use Rattle.hrt_cli.specs.Requests.{Request}
 use Rattle.hrt_cli.specs.Statuses.{code_of}
-use Rattle.hrt_cli.specs.Verdicts.{Verdict, ComesTo, status_of}
+use Rattle.hrt_cli.specs.Verdicts.{Verdict, ComesTo, IsTaken, status_of}
 
 -- a text was written on the report, which was sealed
 pub record IsSentWhole (told : Type 0) (text : List ℕ) (old new : World) : Type 0 where
@@ -124,6 +127,21 @@ pub record PrintsBest (instance : List ℕ) (old new : Content) : Type 0 where
   pub best : Best lists pairs
   pub rising : IsStrictlyIncreasing pairs
   pub report : new.sent Report ≡ solve_report lists pairs
+
+-- The report says of the pairs that one file spells of the instance that the other spells whether they are a weakly stable
+-- matching, and if they aren't the first reason.
+pub record PrintsAudit (instance pairs : List ℕ) (is_stable : Bool) (old new : Content) : Type 0 where
+  pub bytes : List ℕ
+  pub file : old.file instance ≡ Some bytes
+  pub lists : Lists
+  pub spelled : Spells bytes lists
+  pub pairs_bytes : List ℕ
+  pub pairs_file : old.file pairs ≡ Some pairs_bytes
+  pub taken : pairs_refusal lists (rows pairs_bytes) ≡ None
+  pub listed : List ℕ
+  pub listed_are : listed ≡ pairs_of_rows lists (rows pairs_bytes)
+  pub stability : is_weakly_stable lists listed ≡ is_stable
+  pub report : new.sent Report ≡ audit_report lists listed (audit_of lists listed)
 
 -- the file that is named, and what was sent, is the model of the instance that the file spells, and the report counts it
 pub record WritesModel (instance name : List ℕ) (old new : Content) : Type 0 where

@@ -76,6 +76,21 @@ abbrev pub of_few_terms : Result Lists Rejection → Result Lists Rejection
 of_few_terms (Err rejection) = Err rejection
 of_few_terms (Ok lists) = if nat_lt (most Terms) (model_terms lists) then Err (exceeded Terms) else Ok lists
 
+-- the lists of an instance that is taken, or why it isn't
+abbrev pub taken_lists : List ℕ → Result Lists Rejection
+taken_lists bytes = of_few_terms (within Pairs (lists_in bytes))
+
+-- a file is there, and what is read in it is taken
+pub record IsTakenAs {A : Type 0} (read : List ℕ → Result A Rejection) (file : Option (List ℕ)) : Type 0 where
+  pub bytes : List ℕ
+  pub is_file : file ≡ Some bytes
+  pub value : A
+  pub taken : read bytes ≡ Ok value
+
+-- the file is an instance that is taken
+abbrev pub IsTaken : Option (List ℕ) → Type 0
+IsTaken file = IsTakenAs taken_lists file
+
 -- what is due for the lists, unless the file isn't taken
 abbrev pub due : Result Lists Rejection → (Lists → Verdict) → Verdict
 due (Err rejection) f = rejected rejection

@@ -2,6 +2,7 @@
 ghost use Rattle.std.specs.Prelude.{◌≡◌, Some, IfErr, IfOk};
 ghost use Rattle.hrt_base.specs.Calls.{AtStart};
 ghost use Rattle.hrt_cli.specs.Answers.{GivesUp, IsAnswer, IsAnswered};
+ghost use Rattle.hrt_cli.specs.Ports.{ReadsInputs, WritesOutputs};
 ghost use Rattle.hrt_cli.specs.Requests.{check};
 ghost use Rattle.hrt_cli.specs.Verdicts.{checked};
 
@@ -23,6 +24,8 @@ pub fn check<H: Host>(
     requires { AtStart H.told (H.world host.old) }
     ensures answered { IfOk result (λ answer. IsAnswered H.told (Some (check model.now proof.now)) answer (H.world host.old) (H.world host.new)) }
     ensures ended { IfErr result (λ ended. GivesUp H.told ended (H.world host.old) (H.world host.new)) }
+    ensures inputs { ReadsInputs H.told (Some (check model.now proof.now)) (H.world host.old) (H.world host.new) }
+    ensures outputs { WritesOutputs H.told (Some (check model.now proof.now)) (H.world host.old) (H.world host.new) }
 {
     let formula = match load_formula(alloc, host, model) {
         Ok(formula) => formula,

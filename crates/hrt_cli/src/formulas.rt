@@ -1,6 +1,7 @@
 // Models from files.
 ghost use Rattle.std.specs.Prelude.{◌≡◌, ◌≤◌, length, IfErr, IfOk, Ok};
 ghost use Rattle.opb_text.specs.Limits.{IsWithinLimits};
+ghost use Rattle.hrt_cli.specs.Inputs.{BeginsAtMost};
 ghost use Rattle.hrt_cli.specs.Proofs.{IsFormulaRead, StopsModel, StopsModelText};
 ghost use Rattle.hrt_cli.specs.Verdicts.{formula_in};
 
@@ -16,6 +17,7 @@ pub fn load_formula<H: Host>(alloc: Global, host: &mut H, name: &str) -> Result<
     ensures read { IfOk result (λ f. IsFormulaRead H.told Port.Model name.now formula_in f (H.world host.old) (H.world host.new)) }
     ensures within { IfOk result IsWithinLimits }
     ensures stopped { IfErr result (λ stop. StopsModel H.told name.now stop (H.world host.old) (H.world host.new)) }
+    ensures begun { BeginsAtMost Port.Model (H.world host.old) (H.world host.new) }
 {
     match read_file(
         alloc,

@@ -1,7 +1,7 @@
 // Files that are read whole.
 ghost use Rattle.std.specs.Prelude.{◌≡◌, ◌≤◌, length, IfOk, OnErr, IsErrOf};
 ghost use Rattle.hrt_base.specs.Calls.{Rose};
-ghost use Rattle.hrt_cli.specs.Inputs.{WasRead, IsTooLong, OnlyRead};
+ghost use Rattle.hrt_cli.specs.Inputs.{BeginsAtMost, WasRead, IsTooLong, OnlyRead};
 
 use hrt_base::{Begun, Host, Port, ReadEnd, read_all};
 use std::alloc::Global;
@@ -20,6 +20,7 @@ pub fn read_file<H: Host>(
     ensures too_long { IsErrOf result ReadEnd.TooLong → IsTooLong H.told port name.now limit (H.world host.old) (H.world host.new) }
     ensures failed { IsErrOf result ReadEnd.Failed → Rose (H.world host.old).read_faults (H.world host.new).read_faults }
     ensures given_up { OnErr result (OnlyRead H.told (H.world host.old) (H.world host.new)) }
+    ensures begun { BeginsAtMost port (H.world host.old) (H.world host.new) }
 {
     host.begin_read(port, name)?;
     read_all(alloc, host, port, limit)

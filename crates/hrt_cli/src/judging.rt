@@ -4,6 +4,7 @@ ghost use Rattle.opb_text.specs.Limits.{IsWithinLimits};
 ghost use Rattle.stability_model.specs.Model.{formula};
 ghost use Rattle.proof_lines.specs.Spelling.{is_small_claim};
 ghost use Rattle.proof_rules.specs.Texts.{Accepted};
+ghost use Rattle.hrt_cli.specs.Inputs.{BeginsAtMost};
 ghost use Rattle.hrt_cli.specs.Proofs.{IsProofJudged, StopsProof};
 
 use crate::Stop;
@@ -25,6 +26,7 @@ pub fn claim_on_instance<H: Host>(
     ensures judged { IfOk result (λ claim. IsProofJudged H.told name.now (formula inst.now) (Accepted claim) (H.world host.old) (H.world host.new)) }
     ensures small { IfOk result (λ claim. IsTrue (is_small_claim claim)) }
     ensures stopped { IfErr result (λ stop. StopsProof H.told name.now (formula inst.now) stop (H.world host.old) (H.world host.new)) }
+    ensures begun { BeginsAtMost Port.Proof (H.world host.old) (H.world host.new) }
 {
     host.begin_read(Port::Proof, name)?;
     Ok(verify(alloc, inst, host)?)
@@ -42,6 +44,7 @@ pub fn claim_on_formula<H: Host>(
     ensures judged { IfOk result (λ claim. IsProofJudged H.told name.now formula (Accepted claim) (H.world host.old) (H.world host.new)) }
     ensures small { IfOk result (λ claim. IsTrue (is_small_claim claim)) }
     ensures stopped { IfErr result (λ stop. StopsProof H.told name.now formula stop (H.world host.old) (H.world host.new)) }
+    ensures begun { BeginsAtMost Port.Proof (H.world host.old) (H.world host.new) }
 {
     host.begin_read(Port::Proof, name)?;
     Ok(check(alloc, formula, host)?)

@@ -5,6 +5,7 @@ ghost use Rattle.rank_tables.specs.Numbers.{is_distinct};
 ghost use Rattle.rank_tables.specs.Tables.{numbers_of, IsPairNo};
 ghost use Rattle.rank_tables.specs.Terms.{model_terms};
 ghost use Rattle.rank_tables.specs.WellFormed.{most_pairs, most_terms};
+ghost use Rattle.hrt_cli.specs.Inputs.{BeginsAtMost};
 ghost use Rattle.hrt_cli.specs.Limits.{most, IsOnPairs};
 ghost use Rattle.hrt_cli.specs.Loading.{ArePairsLoaded, IsLoaded, StopsLoading, StopsLoadingPairs, StopsPairsText, StopsText};
 ghost use Rattle.hrt_cli.specs.Verdicts.{audit_verdict, audited, exceeded, lists_in, of_few_terms, within};
@@ -28,6 +29,7 @@ pub fn load<H: Host>(
     requires on_pairs { IsOnPairs limit }
     ensures loaded { IfOk result (λ lists. IsLoaded H.told name.now limit lists (H.world host.old) (H.world host.new)) }
     ensures stopped { IfErr result (λ stop. StopsLoading H.told name.now limit stop (H.world host.old) (H.world host.new)) }
+    ensures begun { BeginsAtMost Port.Instance (H.world host.old) (H.world host.new) }
 {
     match read_file(
         alloc,
@@ -93,6 +95,7 @@ pub fn load_pairs<H: Host>(
     ensures in_range { IfOk result (λ pairs. All (λ p. IsPairNo inst.now p.0) pairs.items) }
     ensures distinct { IfOk result (λ pairs. IsTrue (is_distinct (numbers_of pairs.items))) }
     ensures stopped { IfErr result (λ stop. StopsLoadingPairs H.told name.now inst.now stop (H.world host.old) (H.world host.new)) }
+    ensures begun { BeginsAtMost Port.Pairs (H.world host.old) (H.world host.new) }
 {
     match read_file(
         alloc,

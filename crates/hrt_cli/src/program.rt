@@ -1,10 +1,11 @@
 // A whole run.
-ghost use Rattle.std.specs.Prelude.{◌≡◌, ◌⊎◌, ℕ, List, true, IfOk, IfErr, OnOk, OnErr, Some, None};
+ghost use Rattle.std.specs.Prelude.{◌≡◌, ◌⊎◌, ◌==◌, ℕ, List, true, IfOk, IfErr, OnOk, OnErr, Some, None};
 ghost use Rattle.hrt_base.specs.declared.port.Port.{Port};
 ghost use Rattle.hrt_base.specs.Calls.{AtStart, Rose, SentPart};
 ghost use Rattle.hrt_cli.specs.Answers.{EndsEarly, IsCutShort, IsWorked, LeavesFronts, SendsNothing};
-ghost use Rattle.hrt_cli.specs.Requests.{asked_by, bound, check, model, quick, request_of, solve, texts_of, verify};
-ghost use Rattle.hrt_cli.specs.Runs.{EndsAs, Finishes, IsComplete, IsDecided, IsDue, IsSentWhole, KeepsFiles, KeepsOthers, PrintsBest, PrintsBound, PrintsClaim, PrintsMet, PrintsOpen, PrintsSizes, WritesModel, has_report, is_code, keeps_files};
+ghost use Rattle.hrt_cli.specs.Ports.{ReadsInputs, WritesOutputs};
+ghost use Rattle.hrt_cli.specs.Requests.{asked_by, audit, bound, check, model, quick, request_of, solve, texts_of, verify};
+ghost use Rattle.hrt_cli.specs.Runs.{EndsAs, Finishes, IsComplete, IsDecided, IsDue, IsSentWhole, KeepsFiles, KeepsOthers, PrintsAudit, PrintsBest, PrintsBound, PrintsClaim, PrintsMet, PrintsOpen, PrintsSizes, WritesModel, has_report, is_code, keeps_files};
 
 use crate::auditing::audit;
 use crate::checking::check;
@@ -23,6 +24,7 @@ use std::alloc::Global;
 pub fn run<H: Host>(alloc: Global, words: &[String], host: &mut H) -> u8
     requires { AtStart H.told (H.world host.old) }
     ensures best { H.told → result ≡ 0 → (instance : List ℕ) → request_of (texts_of words.now) ≡ Some (solve instance) → PrintsBest instance (H.world host.old).content (H.world host.new).content }
+    ensures audited { H.told → (result ≡ 0) ⊎ (result ≡ 9) → (instance pairs : List ℕ) → request_of (texts_of words.now) ≡ Some (audit instance pairs) → PrintsAudit instance pairs (result == 0) (H.world host.old).content (H.world host.new).content }
     ensures model { H.told → result ≡ 0 → (instance file : List ℕ) → request_of (texts_of words.now) ≡ Some (model instance file) → WritesModel instance file (H.world host.old).content (H.world host.new).content }
     ensures sizes { H.told → result ≡ 0 → (instance proof : List ℕ) → request_of (texts_of words.now) ≡ Some (verify instance proof) → PrintsSizes instance (H.world host.old).content (H.world host.new).content }
     ensures claim { H.told → result ≡ 0 → (model proof : List ℕ) → request_of (texts_of words.now) ≡ Some (check model proof) → PrintsClaim model (H.world host.old).content (H.world host.new).content }
@@ -41,6 +43,8 @@ pub fn run<H: Host>(alloc: Global, words: &[String], host: &mut H) -> u8
     ensures after_write_fault { H.told → result ≡ 5 → IsCutShort (request_of (texts_of words.now)) (H.world host.old) (H.world host.new) }
     ensures after_no_memory { H.told → result ≡ 6 → LeavesFronts (request_of (texts_of words.now)) (H.world host.old).content (H.world host.new).content }
     ensures closed { has_report result ≡ true → (port : Port) → (H.world host.new).begun port ≡ Begun.Writing → ⊥ }
+    ensures inputs { ReadsInputs H.told (request_of (texts_of words.now)) (H.world host.old) (H.world host.new) }
+    ensures outputs { WritesOutputs H.told (request_of (texts_of words.now)) (H.world host.old) (H.world host.new) }
     ensures files { H.told → KeepsOthers (request_of (texts_of words.now)) (H.world host.old).content (H.world host.new).content }
     ensures files_kept { H.told → keeps_files result ≡ true → KeepsFiles (H.world host.old).content (H.world host.new).content }
     ensures known { is_code result ≡ true }
@@ -49,9 +53,12 @@ pub fn run<H: Host>(alloc: Global, words: &[String], host: &mut H) -> u8
 }
 
 // Does what the words ask for, and tells how it ended.
+#[tactic(auto, using(crate::proofs::BegunPorts::at_start_reads, crate::proofs::BegunPorts::at_start_writes, crate::proofs::BegunPorts::sent_whole_reads, crate::proofs::BegunPorts::sent_whole_writes, crate::proofs::BegunPorts::sent_part_reads, crate::proofs::BegunPorts::sent_part_writes))]
 fn carry_out<H: Host>(alloc: Global, words: &[String], host: &mut H) -> Status
     requires { AtStart H.told (H.world host.old) }
-    ensures { EndsAs H.told (request_of (texts_of words.now)) result (H.world host.old) (H.world host.new) }
+    ensures ends { EndsAs H.told (request_of (texts_of words.now)) result (H.world host.old) (H.world host.new) }
+    ensures inputs { ReadsInputs H.told (request_of (texts_of words.now)) (H.world host.old) (H.world host.new) }
+    ensures outputs { WritesOutputs H.told (request_of (texts_of words.now)) (H.world host.old) (H.world host.new) }
 {
     let Some(command) = command_of(words) else {
         return match send(host, b"words not understood\n") {
@@ -75,6 +82,8 @@ fn answer_to<H: Host>(alloc: Global, host: &mut H, command: Command) -> Result<A
     requires { AtStart H.told (H.world host.old) }
     ensures worked { IfOk result (λ answer. IsWorked H.told (Some (asked_by command.entry)) answer (H.world host.old) (H.world host.new)) }
     ensures ended { IfErr result (λ ended. EndsEarly H.told (Some (asked_by command.entry)) ended (H.world host.old) (H.world host.new)) }
+    ensures inputs { ReadsInputs H.told (Some (asked_by command.entry)) (H.world host.old) (H.world host.new) }
+    ensures outputs { WritesOutputs H.told (Some (asked_by command.entry)) (H.world host.old) (H.world host.new) }
 {
     match command {
         Command::Solve(instance) => solve(alloc, host, instance),

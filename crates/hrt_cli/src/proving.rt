@@ -4,6 +4,7 @@ ghost use Rattle.hrt_base.specs.Calls.{AtStart, Rose};
 ghost use Rattle.hrt_solve.specs.Gauged.{bound_claim};
 ghost use Rattle.hrt_solve.specs.Writing.{IsBoundText, IsQuickEnd, IsQuickText};
 ghost use Rattle.hrt_cli.specs.Answers.{EndsEarly, IsAnswer, IsWorked};
+ghost use Rattle.hrt_cli.specs.Ports.{BeginsWriting, IsModelOrProof, ReadsInputs, WritesOutputs};
 ghost use Rattle.hrt_cli.specs.Requests.{bound, quick};
 ghost use Rattle.hrt_cli.specs.Verdicts.{bounded, first_claim, matched};
 ghost use Rattle.hrt_cli.specs.Writing.{AreBegun, SavesInPart, SavesProof, WritesNothing};
@@ -27,6 +28,8 @@ pub fn bound<H: Host>(
     requires { AtStart H.told (H.world host.old) }
     ensures worked { IfOk result (λ answer. IsWorked H.told (Some (bound instance.now model.now proof.now)) answer (H.world host.old) (H.world host.new)) }
     ensures ended { IfErr result (λ ended. EndsEarly H.told (Some (bound instance.now model.now proof.now)) ended (H.world host.old) (H.world host.new)) }
+    ensures inputs { ReadsInputs H.told (Some (bound instance.now model.now proof.now)) (H.world host.old) (H.world host.new) }
+    ensures outputs { WritesOutputs H.told (Some (bound instance.now model.now proof.now)) (H.world host.old) (H.world host.new) }
 {
     let inst = match load(alloc, host, instance, Limit::Pairs) {
         Ok(inst) => inst,
@@ -49,6 +52,8 @@ pub fn quick<H: Host>(
     requires { AtStart H.told (H.world host.old) }
     ensures worked { IfOk result (λ answer. IsWorked H.told (Some (quick instance.now model.now proof.now)) answer (H.world host.old) (H.world host.new)) }
     ensures ended { IfErr result (λ ended. EndsEarly H.told (Some (quick instance.now model.now proof.now)) ended (H.world host.old) (H.world host.new)) }
+    ensures inputs { ReadsInputs H.told (Some (quick instance.now model.now proof.now)) (H.world host.old) (H.world host.new) }
+    ensures outputs { WritesOutputs H.told (Some (quick instance.now model.now proof.now)) (H.world host.old) (H.world host.new) }
 {
     let inst = match load(alloc, host, instance, Limit::Pairs) {
         Ok(inst) => inst,
@@ -61,10 +66,11 @@ pub fn quick<H: Host>(
 }
 
 // Begins the files of the model and of the proof.
-#[tactic(auto, using(crate::proofs::BegunOutputs::are_begun, crate::proofs::BegunOutputs::none_begun, crate::proofs::BegunOutputs::one_begun))]
+#[tactic(auto, using(crate::proofs::BegunOutputs::are_begun, crate::proofs::BegunOutputs::none_begun, crate::proofs::BegunOutputs::one_begun, crate::proofs::BegunPorts::none_begins, crate::proofs::BegunPorts::one_begins, crate::proofs::BegunPorts::two_begin))]
 fn begin<H: Host>(host: &mut H, model: &str, proof: &str) -> Result<(), WriteEnd>
     requires model { (H.world host.old).begun Port.Model ≡ Begun.Idle }
     requires proof { (H.world host.old).begun Port.Proof ≡ Begun.Idle }
+    ensures ports { BeginsWriting IsModelOrProof (H.world host.old) (H.world host.new) }
     ensures begun { OnOk result (AreBegun H.told model.now proof.now (H.world host.old) (H.world host.new)) }
     ensures part { OnErr result (WritesNothing H.told (H.world host.old) (H.world host.new)) }
     ensures failed { IsErrOf result WriteEnd.Failed → Rose (H.world host.old).write_faults (H.world host.new).write_faults }
@@ -84,6 +90,7 @@ fn save_bound<H: Host>(
 ) -> Result<BoundEnd, WriteEnd>
     requires model { (H.world host.old).begun Port.Model ≡ Begun.Idle }
     requires proof { (H.world host.old).begun Port.Proof ≡ Begun.Idle }
+    ensures ports { BeginsWriting IsModelOrProof (H.world host.old) (H.world host.new) }
     ensures saved { IfOk result (λ end. SavesProof H.told (bound_claim end.ceiling) inst.now end.deleted end.ceiling model.now proof.now (H.world host.old) (H.world host.new)) }
     ensures part { OnErr result (SavesInPart H.told (IsBoundText inst.now) inst.now model.now proof.now (H.world host.old) (H.world host.new)) }
     ensures failed { IsErrOf result WriteEnd.Failed → Rose (H.world host.old).write_faults (H.world host.new).write_faults }
@@ -102,6 +109,7 @@ fn save_match<H: Host>(
 ) -> Result<SolveEnd, WriteEnd>
     requires model { (H.world host.old).begun Port.Model ≡ Begun.Idle }
     requires proof { (H.world host.old).begun Port.Proof ≡ Begun.Idle }
+    ensures ports { BeginsWriting IsModelOrProof (H.world host.old) (H.world host.new) }
     ensures said { IfOk result (λ end. IsQuickEnd inst.now end) }
     ensures saved { IfOk result (λ end. SavesProof H.told (first_claim inst.now end.ceiling) inst.now end.deleted end.ceiling model.now proof.now (H.world host.old) (H.world host.new)) }
     ensures part { OnErr result (SavesInPart H.told (IsQuickText inst.now) inst.now model.now proof.now (H.world host.old) (H.world host.new)) }

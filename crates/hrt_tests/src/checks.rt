@@ -100,3 +100,16 @@ fn words_of_both_commands(rt: HostRuntime) -> Result<(), Fail> {
     }
     Ok(())
 }
+
+#[test]
+fn the_proof_of_a_refused_model_is_not_read(rt: HostRuntime) -> Result<(), Fail> {
+    let alloc = rt.alloc();
+    let words = words(alloc, &["check", "i", "absent"])?;
+    let mut host = host_with(alloc, b"min: x1 x2 ;\n", b"")?;
+    assert_eq!(rt; run(alloc, &words, &mut host), 8);
+    assert_eq!(rt;
+        host.sent(Port::Report),
+        b"model refused line 1 Syntax\n".as_slice()
+    );
+    Ok(())
+}

@@ -8,18 +8,18 @@ use Rattle.hrt_cli.specs.Runs.{Reported}
 use Rattle.hrt_cli.proofs.Runs.{cut_short, misused_cut, misused_whole}
 use Rattle.hrt_cli.proofs.program.carry_out.Goals as goal
 
-pub returns-in-Ok : goal.returns-in-Ok
-returns-in-Ok g c =
+pub returns-in-Ok-clause-ends : goal.returns-in-Ok-clause-ends
+returns-in-Ok-clause-ends g c =
     subst (λ (r : Option Request). Reported g.H.Host.told r Misused (g.H.Host.world c.args.host.now) (g.H.Host.world c.send.new.host)) c.in_default.ensures
     (misused_whole _ _ _ _ c.requires refl c.in-Ok.ensures.sent)
 
-pub returns-in-Err : goal.returns-in-Err
-returns-in-Err g c =
+pub returns-in-Err-clause-ends : goal.returns-in-Err-clause-ends
+returns-in-Err-clause-ends g c =
     subst (λ (r : Option Request). CutShort g.H.Host.told r (g.H.Host.world c.args.host.now) (g.H.Host.world c.send.new.host)) c.in_default.ensures
     (misused_cut _ _ _ _ c.requires refl c.in-Err.ensures.failed)
 
-pub returns-in-Ok-answer_to : goal.returns-in-Ok-answer_to
-returns-in-Ok-answer_to g c =
+pub returns-in-Ok-answer_to-clause-ends : goal.returns-in-Ok-answer_to-clause-ends
+returns-in-Ok-answer_to-clause-ends g c =
     let part = subst (λ (l : List ℕ). SentPart g.H.Host.told Report l (g.H.Host.world c.answer_to.new.host) (g.H.Host.world c.send-in-Ok-answer_to.new.host)) c.as_bytes.ensures c.in-Err-send.ensures.failed in
     subst (λ (r : Option Request). CutShort g.H.Host.told r (g.H.Host.world c.args.host.now) (g.H.Host.world c.send-in-Ok-answer_to.new.host)) c.in-Some.ensures
     (cut_short _ _ _ _ _ _ c.in-Ok-answer_to.ensures.worked part)

@@ -1,4 +1,4 @@
-use Rattle.hrt_cli.proofs.JudgedProofs.{verify_accepted, verify_stopped}
+use Rattle.hrt_cli.proofs.JudgedProofs.{instance_stopped, verify_accepted, verify_stopped}
 use Rattle.hrt_cli.proofs.verifying.verify.Goals as goal
 
 pub returns-in-Ok-claim_on_instance-clause-answered : goal.returns-in-Ok-claim_on_instance-clause-answered
@@ -8,3 +8,6 @@ returns-in-Ok-claim_on_instance-clause-answered g c =
 pub returns-clause-answered : goal.returns-clause-answered
 returns-clause-answered g c =
     verify_stopped _ _ _ _ _ _ _ _ _ c.requires c.in-Ok.ensures.loaded c.in-Err-claim_on_instance.ensures.stopped c.explain-in-Err-claim_on_instance.ensures.told
+
+pub returns-in-Err-clause-answered : goal.returns-in-Err-clause-answered
+returns-in-Err-clause-answered g c = instance_stopped _ _ _ _ _ _ _ c.requires c.in-Err.ensures.stopped c.explain.ensures.told

@@ -1,14 +1,13 @@
 -- Rows that serve the deletions of a visit, and the pair from which on they do.
-use Rattle.std.proofs.Common.{◌≡◌, ℕ, ◌<◌, ◌≤◌, Bool, true, false, ◌&&◌, ◌||◌, ◌==◌, List, [], ◌∷◌, ◌++◌, nat_lt, length, take, count_by, refl, sym, ap, ◌∙◌, subst, inl, inr, arith}
+use Rattle.std.proofs.Common.{◌≡◌, ℕ, ◌≤◌, Bool, true, false, ◌&&◌, List, [], ◌∷◌, ◌++◌, nat_lt, count_by, refl, sym, ap, ◌∙◌, subst, inl, inr, arith}
 use Rattle.std.specs.Prelude.{IfSome, None, Option, Some}
 use Rattle.std.proofs.lemmas.Bool.{false_from_ne_true, lt-ltb, ltb-true, true≢false}
-use Rattle.std.proofs.lemmas.List.{take_all}
 use Rattle.hrt_base.specs.declared.numbered.PairNo.{PairNo}
 use Rattle.pb_rows.specs.Closure.{Implies}
 use Rattle.pb_rows.specs.Formula.{NumberedRow}
 use Rattle.rank_tables.specs.Numbers.{is_in}
 use Rattle.rank_tables.specs.Instance.{Lists, capacity_of, pair_at, pairs_of_hospital, rank_by_hospital}
-use Rattle.rank_tables.specs.Tables.{IsPairNo, numbers_of}
+use Rattle.rank_tables.specs.Tables.{IsPairNo}
 use Rattle.stability_model.proofs.Counts.{count_by_le}
 use Rattle.proof_rules.specs.States.{live_rows}
 use Rattle.derivation.specs.Deletions.{Deletions, is_deleted, unit_row}
@@ -17,8 +16,8 @@ use Rattle.pair_reduction.specs.declared.sides.Side.{Side}
 use Rattle.pair_reduction.specs.declared.sides.Side.TheVariants.{Resident, Hospital}
 use Rattle.pair_reduction.specs.declared.known.Known.{Known}
 use Rattle.pair_reduction.specs.Flags.{is_marked}
-use Rattle.pair_reduction.specs.Known.{ArePassed, marks_on}
-use Rattle.pair_reduction.specs.Reduced.{CanReduce, HasOffers, KeepsLive}
+use Rattle.pair_reduction.specs.Known.{ArePassed}
+use Rattle.pair_reduction.specs.Reduced.{CanReduce, KeepsLive}
 use Rattle.pair_reduction.specs.Served.{FirstOf, IsDue, IsFirst, IsServed}
 use Rattle.pair_reduction.specs.Sides.{is_free, is_passed, list_of, other, pairs_on, rank_on}
 use Rattle.pair_reduction.proofs.Implied.{implied_by_a, implied_by_b}

@@ -1,5 +1,5 @@
 -- Marks and waiting lists, one step after another.
-use Rattle.std.proofs.Common.{◌≡◌, ◌≢◌, ℕ, zero, suc, ◌+◌, ◌-◌, ◌*◌, ◌<◌, ◌≤◌, Bool, true, false, List, [], ◌∷◌, if◌then◌else◌, length, replicate, get_or, set, refl, sym, ap, ◌∙◌, subst, inl, inr, arith, length-set, get_or-set_same, get_or-set_other}
+use Rattle.std.proofs.Common.{◌≡◌, ◌≢◌, ℕ, zero, suc, ◌+◌, ◌-◌, ◌*◌, ◌<◌, ◌≤◌, Bool, true, false, List, if◌then◌else◌, length, replicate, get_or, set, refl, sym, ap, ◌∙◌, subst, inl, inr, arith, length-set, get_or-set_same, get_or-set_other}
 use Rattle.std.specs.Prelude.{None, is_some}
 use Rattle.std.proofs.lemmas.Bool.{cases_eq, or_cases, true≢false}
 use Rattle.std.proofs.lemmas.List.{length-replicate}
@@ -13,7 +13,7 @@ use Rattle.pair_reduction.specs.declared.sides.Side.TheVariants.{Resident, Hospi
 use Rattle.pair_reduction.specs.declared.known.Known.{Known}
 use Rattle.pair_reduction.specs.Sides.{is_free, is_passed, list_count, list_of, other}
 use Rattle.pair_reduction.specs.Flags.{flag_count, is_marked, is_waiting}
-use Rattle.pair_reduction.specs.Known.{AreMarked, ArePassed, Drops, Gains, IsKept, IsOneMore, IsSettled, MarksFree, Pays, Rests, mark_count, marks_on, waiting_count, waiting_on}
+use Rattle.pair_reduction.specs.Known.{Drops, Gains, IsKept, IsOneMore, IsSettled, MarksFree, Pays, Rests, mark_count, marks_on, waiting_count, waiting_on}
 use Rattle.pair_reduction.specs.Reduced.{IsClosedTo}
 use Rattle.pair_reduction.proofs.TwoSides.{by_side, free_grows, free_same, is_declared, other_twice, passed_grows, rule_a-passed, rule_b-passed}
 

@@ -1,19 +1,17 @@
 -- Tests of the pairs of a list, one after another.
-use Rattle.std.proofs.Common.{◌≡◌, ℕ, zero, suc, ◌+◌, ◌<◌, ◌≤◌, ◌^◌, Bool, true, false, ◌&&◌, ◌||◌, ◌==◌, ◌-◌, nat_lt, List, [], ◌∷◌, ◌++◌, length, take, get_or, count_by, Fits, w64, refl, sym, ap, ◌∙◌, subst, arith}
-use Rattle.std.specs.List.{list_all, list_any}
-use Rattle.std.proofs.lemmas.Bool.{eq-eqb, false_from_ne_true, or_left, or_right, true≢false, and_from, le-ltb, lt-ltb, ne_eqb}
-use Rattle.std.proofs.lemmas.List.{length-take, take_all, take_more}
-use Rattle.std.proofs.lemmas.List.Sums.{count_by-le-length}
+use Rattle.std.proofs.Common.{◌≡◌, ℕ, zero, suc, ◌+◌, ◌<◌, ◌≤◌, Bool, true, false, ◌||◌, ◌==◌, nat_lt, List, [], ◌∷◌, ◌++◌, length, take, get_or, count_by, refl, sym, ap, ◌∙◌, subst, arith}
+use Rattle.std.specs.List.{list_all}
+use Rattle.std.proofs.lemmas.Bool.{eq-eqb, false_from_ne_true, or_left, or_right, true≢false, le-ltb, ne_eqb}
+use Rattle.std.proofs.lemmas.List.{take_all, take_more}
 use Rattle.hrt_base.specs.declared.numbered.PairNo.{PairNo}
 use Rattle.rank_tables.specs.Numbers.{is_distinct, is_in}
 use Rattle.rank_tables.specs.Tables.{numbers_of}
-use Rattle.rank_tables.proofs.Numbers.{all_at, all_from}
+use Rattle.rank_tables.proofs.Numbers.{all_at}
 use Rattle.rank_tables.specs.Numbers.{numbers_to}
 use Rattle.rank_tables.specs.Instance.{Lists, pair_at, pair_count, pairs_of_hospital, pairs_of_resident, rank_by_resident}
 use Rattle.rank_tables.proofs.Numbers.{distinct-filter, distinct-numbers_to}
-use Rattle.stability_model.specs.Gone.{Pairs, has_only, is_sure, rule_a}
+use Rattle.stability_model.specs.Gone.{Pairs, has_only}
 use Rattle.stability_model.proofs.Counts.{count_alike}
-use Rattle.stability_model.proofs.GoneLocal.{count_same_in}
 
 pub number_in : (ps : List PairNo) (i : ℕ) (d : PairNo) → i < length ps → is_in (get_or ps i d).0 (numbers_of ps) ≡ true
 number_in [] i d h = absurd (omega arith)

@@ -1,12 +1,12 @@
 -- The pairs of a list are tried one after another.
-use Rattle.std.proofs.Common.{◌≡◌, ℕ, zero, suc, ◌+◌, ◌-◌, ◌<◌, ◌≤◌, Bool, true, false, not, ◌||◌, ◌==◌, nat_le, List, [], ◌∷◌, ◌++◌, length, take, refl, sym, ap, ◌∙◌, subst, inl, inr, arith}
+use Rattle.std.proofs.Common.{◌≡◌, ℕ, ◌-◌, ◌≤◌, Bool, true, false, not, ◌==◌, nat_le, List, [], ◌∷◌, ◌++◌, length, take, refl, sym, ap, ◌∙◌, subst, inl, inr, arith}
 use Rattle.std.specs.Prelude.{◌⊎◌, slice_set}
 use Rattle.std.proofs.lemmas.Bool.{eqb-true, or_cases, true≢false}
 use Rattle.std.proofs.lemmas.List.{take_all}
 use Rattle.std.proofs.lemmas.List.Folds.{list_any-append}
 use Rattle.hrt_base.specs.declared.numbered.PairNo.{PairNo}
 use Rattle.rank_tables.specs.Numbers.{is_in}
-use Rattle.rank_tables.specs.Instance.{Lists, pair_count}
+use Rattle.rank_tables.specs.Instance.{Lists}
 use Rattle.rank_tables.specs.Tables.{IsPairNo, numbers_of}
 use Rattle.stability_model.specs.Gone.{Pairs}
 use Rattle.derivation.specs.Deletions.{Deletions, is_deleted}
@@ -15,7 +15,7 @@ use Rattle.pair_reduction.specs.declared.sides.Side.TheVariants.{Resident, Hospi
 use Rattle.pair_reduction.specs.declared.known.Known.{Known}
 use Rattle.pair_reduction.specs.Flags.{is_marked, is_waiting}
 use Rattle.pair_reduction.specs.Sides.{is_free, is_passed, list_of, other, pairs_on, places, rank_on}
-use Rattle.pair_reduction.specs.Known.{AreMarked, ArePassed, Drops, IsKept, IsOneMore, IsSettled, MarksFree, Pays, Waits, marks_on, waiting_on}
+use Rattle.pair_reduction.specs.Known.{ArePassed, Drops, IsKept, IsOneMore, IsSettled, MarksFree, Pays, Waits, marks_on, waiting_on}
 use Rattle.pair_reduction.specs.Ranks.{AreRising, count_within}
 use Rattle.pair_reduction.specs.Visits.{TriesDelete, TriesMark}
 use Rattle.pair_reduction.proofs.RankTests.{passed_by_ranks}

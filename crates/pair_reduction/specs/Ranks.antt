@@ -1,5 +1,5 @@
 -- The ranks of some pairs of a list.
-use Rattle.std.specs.Prelude.{◌≡◌, ℕ, Bool, ◌&&◌, nat_le, List, count_by}
+use Rattle.std.specs.Prelude.{◌≡◌, ℕ, ◌&&◌, nat_le, List, count_by}
 use Rattle.std.specs.List.Sorted.{IsNonDecreasing}
 use Rattle.rank_tables.specs.Instance.{Lists}
 use Rattle.stability_model.specs.Gone.{Pairs}

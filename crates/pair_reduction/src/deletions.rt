@@ -72,11 +72,7 @@ pub(crate) fn delete_by_rule(
 }
 
 /// Forgets rows that were made for a while. Where there is none, it writes no line.
-pub(crate) fn forget(
-    alloc: Global,
-    deriv: &mut Derivation,
-    ids: &[RowNo],
-) -> Result<(), NoMemory>
+pub(crate) fn forget(alloc: Global, deriv: &mut Derivation, ids: &[RowNo]) -> Result<(), NoMemory>
     requires open { deriv.old.claim ≡ None }
     requires can { CanForget ids.now deriv.old }
     requires few { length ids.now ≤ 20000 }

@@ -53,13 +53,7 @@ fn sooner(
 }
 
 /// The first by rank of the pairs of a list that are to be deleted.
-fn first_due(
-    inst: &Instance,
-    known: &Known,
-    side: Side,
-    ranks: &[u32],
-    n: u32,
-) -> Option<PairNo>
+fn first_due(inst: &Instance, known: &Known, side: Side, ranks: &[u32], n: u32) -> Option<PairNo>
     requires n { n < list_count side inst.now }
     requires ranks { AreRising side inst.now (is_marked (marks_on (other side) known.now)) (pairs_on side inst.now n) ranks.now }
     ensures { FirstOf side inst.now known.now n (pairs_on side inst.now n) result }

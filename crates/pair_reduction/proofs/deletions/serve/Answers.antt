@@ -1,9 +1,7 @@
-use Rattle.std.proofs.Common.{◌≡◌, true, sym, ◌∙◌, subst}
+use Rattle.std.proofs.Common.{◌≡◌, true, ◌∙◌, subst}
 use Rattle.derivation.specs.Deletions.{is_deleted}
 use Rattle.pair_reduction.specs.declared.sides.Side.{Side}
-use Rattle.pair_reduction.specs.Served.{IsServed}
 use Rattle.pair_reduction.specs.Sides.{is_free, is_passed, other}
-use Rattle.pair_reduction.proofs.Offering.{adds_none, made_none}
 use Rattle.pair_reduction.proofs.TwoSides.{rule_b-passed}
 use Rattle.pair_reduction.proofs.deletions.serve.Goals as goal
 

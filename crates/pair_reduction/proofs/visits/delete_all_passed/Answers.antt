@@ -1,4 +1,4 @@
-use Rattle.std.proofs.Common.{◌≡◌, ℕ, ◌+◌, ◌-◌, ◌*◌, ◌<◌, ◌≤◌, true, List, length, ap, refl, sym, ◌∙◌, subst, arith}
+use Rattle.std.proofs.Common.{◌≡◌, ℕ, true, List, length, ap, refl, sym, ◌∙◌, subst, arith}
 use Rattle.hrt_base.specs.declared.numbered.RowNo.{RowNo}
 use Rattle.rank_tables.specs.Instance.{Lists}
 use Rattle.pair_reduction.specs.Flags.{is_waiting}

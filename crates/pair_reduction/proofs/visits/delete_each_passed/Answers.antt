@@ -1,4 +1,4 @@
-use Rattle.std.proofs.Common.{ap, ◌∙◌, arith, sym}
+use Rattle.std.proofs.Common.{ap, ◌∙◌, arith}
 use Rattle.rank_tables.specs.Numbers.{is_in}
 use Rattle.rank_tables.specs.Instance.{Lists}
 use Rattle.pair_reduction.specs.Sides.{list_of, pairs_on}

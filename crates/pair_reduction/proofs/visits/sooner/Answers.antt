@@ -1,7 +1,5 @@
-use Rattle.std.proofs.Common.{List, refl, sym, ◌∙◌, ℕ, subst, arith}
-use Rattle.std.specs.Prelude.{Option}
+use Rattle.std.proofs.Common.{refl, sym, ◌∙◌, subst, arith}
 use Rattle.std.proofs.lemmas.Bool.{true≢false}
-use Rattle.hrt_base.specs.declared.numbered.PairNo.{PairNo}
 use Rattle.pair_reduction.specs.Flags.{is_marked}
 use Rattle.pair_reduction.specs.Known.{marks_on}
 use Rattle.pair_reduction.specs.Served.{FirstOf, IsDue}

@@ -1,4 +1,4 @@
-use Rattle.std.proofs.Common.{◌≡◌, ℕ, ◌<◌, true, length, replicate}
+use Rattle.std.proofs.Common.{◌≡◌, ℕ, ◌<◌, true, replicate}
 use Rattle.std.specs.List.{All}
 use Rattle.rank_tables.specs.Numbers.{is_in}
 use Rattle.pair_reduction.proofs.waiting.Waiting.all.Given as goal

@@ -1,6 +1,6 @@
 #!/usr/bin/env bash
 # Checks proofs with one long `pol` line, with one long `del` line, with a `del` line for each row, and with a long `del` line
-# after which `rup` lines follow, over formulas of 1,000, 10,000 and 100,000 rows, with the built program. Prints seconds in all
+# after which 100 `rup` lines follow, over formulas of 1,000, 10,000 and 100,000 rows, with the built program. Prints seconds in all
 # and microseconds for a number that the lines name. All rows have the literal x1, and each is named once, the newest first: so
 # the time for a number shows whether it grows with the rows that are live or that share a literal. A proof that names `none`
 # shows how long the model takes.
@@ -21,7 +21,7 @@ with open(proof, "w") as file:
     elif kind == "dels":
         file.write("".join(f"del id {n}\n" for n in numbers))
     if kind == "rup":
-        file.write("rup +1 x1 +1 x2 >= 1 ;\n" * count)
+        file.write("rup +1 x1 +1 x2 >= 1 ;\n" * 100)
     file.write("output NONE\nconclusion NONE\nend pseudo-Boolean proof\n")
 ' "$@"
 }

@@ -52,3 +52,22 @@ with open(path, "w") as file:
     file.write("end\n")
 ' "$@"
 }
+
+# Python that makes an instance of the lists of residents: who names each hospital, and the text, with each list in one tie or none.
+lists_of_pairs='
+import random, sys
+def named_by(lists, hospitals):
+    named = [[] for _ in range(hospitals)]
+    for r, list in enumerate(lists):
+        for h in list:
+            named[h].append(r)
+    return named
+def write_instance(path, lists, named, posts_of, opened, closed):
+    with open(path, "w") as file:
+        file.write("hrt 1\n")
+        for r, list in enumerate(lists):
+            file.write(f"resident r{r}: {opened}" + " ".join(f"h{h}" for h in list) + f"{closed}\n")
+        for h, list in enumerate(named):
+            file.write(f"hospital h{h} {posts_of(h)}: {opened}" + " ".join(f"r{r}" for r in list) + f"{closed}\n")
+        file.write("end\n")
+'

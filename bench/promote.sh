@@ -48,21 +48,10 @@ fn main(rt: HostRuntime) -> io::Result<()> {
 END
 (cd "$work/crates/promoting" && rt run > "$work/log" 2>&1) || { cat "$work/log"; exit 1; }
 long_ties() {
-  python3 -c '
-import sys
+  python3 -c "$lists_of_pairs"'
 path, residents, hospitals, choices, posts = sys.argv[1], *map(int, sys.argv[2:])
 lists = [[(r * choices + k) % hospitals for k in range(choices)] for r in range(residents)]
-named = [[] for _ in range(hospitals)]
-for r, list in enumerate(lists):
-    for h in list:
-        named[h].append(r)
-with open(path, "w") as file:
-    file.write("hrt 1\n")
-    for r, list in enumerate(lists):
-        file.write(f"resident r{r}: (" + " ".join(f"h{h}" for h in list) + ")\n")
-    for h, list in enumerate(named):
-        file.write(f"hospital h{h} {posts}: (" + " ".join(f"r{r}" for r in list) + ")\n")
-    file.write("end\n")
+write_instance(path, lists, named_by(lists, hospitals), lambda h: posts, "(", ")")
 ' "$@"
 }
 printf '%9s %9s %7s %5s %6s %8s %8s %8s %9s %7s\n' residents hospitals pairs posts first reading seconds us/pair 'peak MiB' status

@@ -67,29 +67,21 @@ fn main(rt: HostRuntime) -> io::Result<()> {
 }
 EOF
 (cd "$work/crates/reducing" && rt run > "$work/log" 2>&1) || { cat "$work/log"; exit 1; }
-make='
-import random, sys
+drawn_lists() {
+  python3 -c "$lists_of_pairs"'
 path, residents, hospitals, choices, posts, every = sys.argv[1], *map(int, sys.argv[2:])
 random.seed(7)
 lists = [random.sample(range(hospitals), choices) for _ in range(residents)]
-named = [[] for _ in range(hospitals)]
-for r, list in enumerate(lists):
-    for h in list:
-        named[h].append(r)
+named = named_by(lists, hospitals)
 for list in named:
     random.shuffle(list)
-with open(path, "w") as file:
-    file.write("hrt 1\n")
-    for r, list in enumerate(lists):
-        file.write(f"resident r{r}: " + " ".join(f"h{h}" for h in list) + "\n")
-    for h, list in enumerate(named):
-        file.write(f"hospital h{h} {0 if h % every else posts}: " + " ".join(f"r{r}" for r in list) + "\n")
-    file.write("end\n")
+write_instance(path, lists, named, lambda h: 0 if h % every else posts, "", "")
 print(residents * choices * choices + sum(len(list) ** 2 for list in named))
-'
+' "$@"
+}
 printf '%9s %9s %7s %5s %5s %8s %9s %8s %8s %8s %9s\n' residents hospitals pairs posts every deleted steps making seconds us/step 'peak MiB'
 for shape in '1000 1000 10 1 1' '10000 10000 10 1 1' '10000 10000 10 2 1' '200 200 80 1 1' '500 500 80 1 1' '500 500 80 5 1' '112 888 888 5 25' '20000 400 1 25 1' '20000 100 1 100 1'; do
-  steps=$(python3 -c "$make" "$work/i.hrt" $shape)
+  steps=$(drawn_lists "$work/i.hrt" $shape)
   read -r _ peak _ pairs deleted made reduced <<< "$(measured "$work/crates/reducing/out/reducing" "$work/i.hrt")"
   read -r residents hospitals _ posts every <<< "$shape"
   printf '%9s %9s %7s %5s %5s %8s %9s %8s %8s %8s %9s\n' "$residents" "$hospitals" "$pairs" "$posts" "$every" "$deleted" "$steps" "$(per 1000000 "$made" 1)" "$(per 1000000 "$reduced" 1)" "$(per "$steps" "$reduced" 1)" "$peak"

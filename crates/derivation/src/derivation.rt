@@ -19,14 +19,14 @@ ghost use Rattle.derivation.specs.Steps.{IsRowOrTooBig, IsTooBig, IsWritable, Na
 
 use crate::PolRefusal;
 use crate::lines::{del_line, end_text, note_text, pol_line, rup_line, soli_line, text_of};
-use crate::objective::{objective_terms, smaller};
+use crate::objective::objective_terms;
 use crate::rows::Rows;
 use crate::start::{first_kept, first_lines, model_rows};
 use crate::steps::{named_row, steps_row};
 use hrt_base::{Begun, Failed, Host, NoMemory, Port, RowNo, write_all};
 use pb_rows::Row;
 use proof_lines::{Claim, Line, Note, PolStep};
-use proof_steps::{improvement_row, objective_value};
+use proof_steps::{improvement_row, objective_value, smaller};
 use rank_tables::Instance;
 use stability_model::Model;
 use std::alloc::Global;

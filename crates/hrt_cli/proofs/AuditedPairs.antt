@@ -18,7 +18,6 @@ use Rattle.stability_audit.specs.declared.verdict.Verdict.{Verdict as Audit}
 use Rattle.stability_audit.specs.declared.verdict.Verdict.TheVariants.{Stable, ResidentTwice, OverCapacity, Blocked}
 use Rattle.stability_audit.specs.Verdict.{ArePairs, blocking_pair, first_reason, hospital_over, resident_twice, verdict_of as audit_of}
 use Rattle.hrt_cli.specs.declared.answer.Answer.{Answer}
-use Rattle.hrt_cli.specs.declared.limit.Limit.{Limit}
 use Rattle.hrt_cli.specs.declared.limit.Limit.TheVariants as limit
 use Rattle.hrt_cli.specs.declared.status.Status.{Status}
 use Rattle.hrt_cli.specs.declared.status.Status.TheVariants.{Done, AuditNo}
@@ -30,7 +29,7 @@ use Rattle.hrt_cli.specs.Loading.{ArePairsLoaded, ArePairsRejected, IsLoaded, Is
 use Rattle.hrt_cli.specs.Reports.{NamesDeclared}
 use Rattle.hrt_cli.specs.Requests.{audit}
 use Rattle.hrt_cli.specs.Verdicts.{ComesTo, Rejection, Verdict, audit_status, audit_verdict, audited, exceeded, on_file, on_lists, rejected}
-use Rattle.hrt_cli.proofs.ReadOut.{reads_one, reads_two, rejection_on_files, then_only_read}
+use Rattle.hrt_cli.proofs.ReadOut.{passed_as, reads_one, reads_two, rejection_on_files, then_only_read}
 
 -- ---- whom an audit names
 
@@ -103,10 +102,6 @@ audit_answered told i q lists pairs answer old mid new start loaded read answere
         reads_two told Instance Pairs old mid new [] (audited lists pairs) start loaded.begun (loaded.content t) read.begun (read.content t) (inl refl),
       );
 }
-
-pub passed_as : (rejection : Rejection) (what : Limit) (l : List ℕ) → (l ≡ []) ⊎ (rejection ≡ exceeded what) → (l ≡ []) ⊎ (rejected rejection ≡ rejected (exceeded what))
-passed_as rejection what l (inl e) = inl e
-passed_as rejection what l (inr e) = inr (ap rejected e)
 
 pub pairs_rejected : (told : Type 0) (i q : List ℕ) (lists : Lists) (rejection : Rejection) (answer : Answer) (old mid new : World) → AtStart told old
     → IsLoaded told i limit.Pairs lists old mid → ArePairsRejected told q lists rejection mid new → IsAnswer (rejected rejection) answer → IsAnswered told (Some (audit i q)) answer old new

@@ -24,7 +24,7 @@ use Rattle.hrt_cli.specs.Outputs.{output}
 use Rattle.hrt_cli.specs.Ports.{BeginsWriting, IsInput, IsModel, IsModelOrProof, IsOutput, ReadsInputs, WritesOutputs}
 use Rattle.hrt_cli.specs.Proofs.{IsFormulaRead}
 use Rattle.hrt_cli.specs.Requests.{Request, audit, bound, check, model, quick, solve, verify}
-use Rattle.hrt_cli.specs.Runs.{IsSentWhole}
+use Rattle.hrt_solve.specs.Writing.{SentWhole}
 use Rattle.hrt_cli.specs.Verdicts.{IsTakenAs, formula_in}
 use Rattle.hrt_cli.specs.Writing.{EndsWriting, SavesInPart, SavesProof, WritesAll, WritesInPart}
 use Rattle.hrt_cli.proofs.Runs.{put_elsewhere, reads_nothing, writes_report}
@@ -86,10 +86,10 @@ writes_as_before told request port old mid new before most = record { output = �
 
 -- ---- the report
 
-pub sent_whole_reads : (told : Type 0) (request : Option Request) (text : List ℕ) (old mid new : World) → ReadsInputs told request old mid → IsSentWhole told text mid new → ReadsInputs told request old new
+pub sent_whole_reads : (told : Type 0) (request : Option Request) (text : List ℕ) (old mid new : World) → ReadsInputs told request old mid → SentWhole told Report text mid new → ReadsInputs told request old new
 sent_whole_reads told request text old mid new before sent = record { input = λ p reading. before.input p (stood_before Report Idle Reading mid new (λ e. absurd (cc)) sent.begun p reading) }
 
-pub sent_whole_writes : (told : Type 0) (request : Option Request) (text : List ℕ) (old mid new : World) → WritesOutputs told request old mid → IsSentWhole told text mid new → WritesOutputs told request old new
+pub sent_whole_writes : (told : Type 0) (request : Option Request) (text : List ℕ) (old mid new : World) → WritesOutputs told request old mid → SentWhole told Report text mid new → WritesOutputs told request old new
 sent_whole_writes told request text old mid new before sent = record { output = λ p writing. before.output p (stood_before Report Idle Writing mid new (λ e. absurd (cc)) sent.begun p writing) }
 
 pub sent_part_reads : (told : Type 0) (request : Option Request) (text : List ℕ) (old mid new : World) → ReadsInputs told request old mid → SentPart told Report text mid new → ReadsInputs told request old new

@@ -9,6 +9,7 @@ use Rattle.rank_tables.proofs.TermBound.{model_terms-le}
 use Rattle.hrt_text.specs.Text.{rows}
 use Rattle.hrt_reader.specs.Refusal.{refusal, lists_of_rows}
 use Rattle.hrt_cli.specs.declared.limit.Limit.TheVariants.{TriedPairs, InstanceBytes}
+use Rattle.hrt_cli.specs.Limits.{most}
 use Rattle.hrt_cli.specs.Verdicts.{Rejection, exceeded, lists_in, of_few_terms, unless_refused, within}
 
 square : (n : ℕ) → n ≤ 12 → n * n ≤ 144
@@ -30,7 +31,7 @@ tried_have_few (Ok lists) = elim (cases_lt 12 (pair_count lists)) [
   | inr few ↦ rw (le-ltb 12 (pair_count lists) few, le-ltb most_terms (model_terms lists) (few_pairs lists few)) refl
 ]
 
-pub lists_taken : (bytes : List ℕ) → length bytes ≤ 67108864 → refusal (rows bytes) ≡ None → lists_in bytes ≡ Ok (lists_of_rows (rows bytes))
+pub lists_taken : (bytes : List ℕ) → length bytes ≤ most InstanceBytes → refusal (rows bytes) ≡ None → lists_in bytes ≡ Ok (lists_of_rows (rows bytes))
 lists_taken bytes short none =
-    ap (λ b. cond b (Err (exceeded InstanceBytes)) (unless_refused (refusal (rows bytes)) (lists_of_rows (rows bytes)))) (le-ltb 67108864 (length bytes) short)
+    ap (λ b. cond b (Err (exceeded InstanceBytes)) (unless_refused (refusal (rows bytes)) (lists_of_rows (rows bytes)))) (le-ltb (most InstanceBytes) (length bytes) short)
     ∙ ap (λ r. unless_refused r (lists_of_rows (rows bytes))) none

@@ -24,7 +24,7 @@ use Rattle.hrt_cli.specs.Loading.{IsLoaded, IsRejected, StopsLoading}
 use Rattle.hrt_cli.specs.Proofs.{IsFormulaRead, IsProofJudged, StopsProof}
 use Rattle.hrt_cli.specs.Requests.{Request, check, verify}
 use Rattle.hrt_cli.specs.Verdicts.{ComesTo, Files, OnFiles, OnFormula, ProofComesTo, Rejection, Verdict, checked, exceeded, formula_in, formula_of_instance, model_of, on_verdict, rejected, status_of, verified}
-use Rattle.hrt_cli.proofs.ReadOut.{reads_one, reads_two, rejection_on_files, then_only_read}
+use Rattle.hrt_cli.proofs.ReadOut.{passed_as, reads_one, reads_two, rejection_on_files, then_only_read}
 
 -- ---- a command by its two files
 
@@ -158,10 +158,6 @@ pub verify_accepted : (told : Type 0) (i p : List ℕ) (lists : Lists) (claim : 
 verify_accepted told i p lists claim r old mid new start loaded judged answered =
     proof_accepted told (verifying i p) (formula lists) claim r old mid new start (loaded_read told i lists old mid loaded) judged answered
 
-passed_as : (rejection : Rejection) (l : List ℕ) → (l ≡ []) ⊎ (rejection ≡ exceeded limit.InstanceBytes) → (l ≡ []) ⊎ (rejected rejection ≡ rejected (exceeded limit.InstanceBytes))
-passed_as rejection l (inl e) = inl e
-passed_as rejection l (inr e) = inr (ap rejected e)
-
 verify_rejected : (told : Type 0) (i p : List ℕ) (rejection : Rejection) (answer : Answer) (old new : World) → AtStart told old → IsRejected told i limit.Pairs rejection old new
     → IsAnswer (rejected rejection) answer → IsAnswered told (Some (verify i p)) answer old new
 verify_rejected told i p rejection answer old new start read answered = record {
@@ -174,7 +170,7 @@ verify_rejected told i p rejection answer old new start read answered = record {
         rejected rejection,
         (text.0, text.1, on),
         answered,
-        reads_one told Instance old new (rejected rejection) start read.begun (passed_as rejection (new.content.rest Instance) (read.out t)),
+        reads_one told Instance old new (rejected rejection) start read.begun (passed_as rejection limit.InstanceBytes (new.content.rest Instance) (read.out t)),
       );
 }
 

@@ -6,7 +6,6 @@ use Rattle.rank_tables.specs.Numbers.{is_in, numbers_to}
 use Rattle.rank_tables.specs.Tables.{IsPairNo}
 use Rattle.rank_tables.proofs.Numbers.{is_in-numbers_to, same_bools}
 use Rattle.stability_model.proofs.GoneLocal.{count_same_in}
-use Rattle.capacity_bound.proofs.CeilingBound.{ceiling_exact}
 use Rattle.pb_rows.specs.Formula.{Formula}
 use Rattle.proof_lines.specs.declared.line.Claim.{Claim}
 use Rattle.proof_rules.proofs.Verdicts.{one_verdict}
@@ -57,7 +56,7 @@ one_deleted lists d t e u first second =
     ∙ sym second.deleted_is
 
 one_ceiling : (lists : Lists) (d t e u : ℕ) → AreNumbersOf lists d t → AreNumbersOf lists e u → t ≡ u
-one_ceiling lists d t e u first second = (ceiling_exact lists first.gone t first.ceiling_is first.are).of_each second.gone second.are ∙ sym second.ceiling_is
+one_ceiling lists d t e u first second = first.ceiling_is.of_each second.gone second.are ∙ sym (second.ceiling_is.of_each second.gone second.are)
 
 -- ---- verdicts that are told alike
 

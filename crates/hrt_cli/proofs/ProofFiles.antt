@@ -16,7 +16,8 @@ use Rattle.proof_checker.specs.declared.refusal.ProofRefusal.{ProofRefusal}
 use Rattle.proof_checker.specs.declared.refusal.ProofRefusal.TheVariants as proof
 use Rattle.hrt_solve.specs.declared.refusal.CheckRefusal.{CheckRefusal}
 use Rattle.hrt_solve.specs.declared.refusal.CheckRefusal.TheVariants as check
-use Rattle.hrt_solve.specs.Judged.{IsJudged, StopsCheck, most_proof_bytes}
+use Rattle.proof_checker.specs.Limits.{most_proof_bytes}
+use Rattle.hrt_solve.specs.Judged.{IsJudged, StopsCheck}
 use Rattle.hrt_cli.specs.declared.answer.Answer.{Answer}
 use Rattle.hrt_cli.specs.declared.status.Status.TheVariants.{ProofRefused}
 use Rattle.hrt_cli.specs.declared.stop.Stop.{Stop}

@@ -7,6 +7,7 @@ use Rattle.hrt_base.specs.declared.host.Begun.TheVariants.{Reading}
 use Rattle.hrt_base.specs.Calls.{AtStart}
 use Rattle.hrt_base.specs.World.{World, Content, put, port_no, with_rest}
 use Rattle.hrt_base.proofs.Pieces.{port_no-injective, put_here}
+use Rattle.hrt_cli.specs.declared.limit.Limit.{Limit}
 use Rattle.hrt_cli.specs.Answers.{IsReadOut, PassedAt, is_on_files}
 use Rattle.hrt_cli.specs.Inputs.{OnlyRead, but_for_rest}
 use Rattle.hrt_cli.specs.Verdicts.{Rejection, Verdict, exceeded, model_refused, pairs_refused, proof_refused, refused, rejected, status_of, truncated}
@@ -55,3 +56,8 @@ rejection_on_files (pairs_refused r) = refl
 rejection_on_files (model_refused kind line) = refl
 rejection_on_files (proof_refused r) = refl
 rejection_on_files truncated = refl
+
+-- a limit that a file passed is the one that is told
+pub passed_as : (rejection : Rejection) (what : Limit) (l : List ℕ) → (l ≡ []) ⊎ (rejection ≡ exceeded what) → (l ≡ []) ⊎ (rejected rejection ≡ rejected (exceeded what))
+passed_as rejection what l (inl e) = inl e
+passed_as rejection what l (inr e) = inr (ap rejected e)

@@ -9,6 +9,7 @@ use Rattle.hrt_base.specs.declared.host.Begun.TheVariants.{Idle, Reading, Writin
 use Rattle.hrt_base.specs.Calls.{AtStart, Sent, SentPart}
 use Rattle.hrt_base.specs.World.{World, Content, port_no, put, store}
 use Rattle.hrt_base.proofs.Pieces.{port_no-injective, put_here}
+use Rattle.hrt_solve.specs.Writing.{SentWhole}
 use Rattle.hrt_cli.specs.declared.answer.Answer.{Answer}
 use Rattle.hrt_cli.specs.declared.status.Status.{Status}
 use Rattle.hrt_cli.specs.declared.status.Status.TheVariants.{Done, Misused, InstanceRefused, ReadFault, WriteFault, NoMemory, LimitExceeded, ProofRefused, AuditNo, Bounded, PairsRefused}
@@ -19,7 +20,7 @@ use Rattle.hrt_cli.specs.Inputs.{OnlyRead}
 use Rattle.hrt_cli.specs.Outputs.{Output, SendsAll, files_after, outputs_of, text_on}
 use Rattle.hrt_cli.specs.Reports.{IsReport, line}
 use Rattle.hrt_cli.specs.Requests.{Request}
-use Rattle.hrt_cli.specs.Runs.{IsSentWhole, IsReported, Reported, EndsAs}
+use Rattle.hrt_cli.specs.Runs.{IsReported, Reported, EndsAs}
 use Rattle.hrt_cli.specs.Verdicts.{Verdict, misused}
 
 -- ---- ports
@@ -38,7 +39,7 @@ writes_report told w start p writing = elim (cases_eq (port_no p) (port_no Repor
 ]
 
 -- nothing is begun for writing once the report is sealed
-closed_after : (told : Type 0) (text : List ℕ) (mid new : World) → ((p : Port) → mid.begun p ≡ Writing → port_no p ≡ port_no Report) → IsSentWhole told text mid new
+closed_after : (told : Type 0) (text : List ℕ) (mid new : World) → ((p : Port) → mid.begun p ≡ Writing → port_no p ≡ port_no Report) → SentWhole told Report text mid new
     → (p : Port) → new.begun p ≡ Writing → ⊥
 closed_after told text mid new others sent p writing = elim (cases_eq (port_no p) (port_no Report)) [
   | inl same ↦
@@ -146,7 +147,7 @@ ends_on_files told request AuditNo old new on asked closed reported = reported_o
 ends_on_files told request Bounded old new on asked closed reported = reported_of told request Bounded old new (λ e. absurd (cc)) asked closed reported
 ends_on_files told request PairsRefused old new on asked closed reported = reported_of told request PairsRefused old new (λ e. absurd (cc)) asked closed reported
 
-whole_sends : (told : Type 0) (text : List ℕ) (outputs : List Output) (old mid new : World) → SendsAll outputs old.content mid.content → mid.content.name Report ≡ [] → IsSentWhole told text mid new → told
+whole_sends : (told : Type 0) (text : List ℕ) (outputs : List Output) (old mid new : World) → SendsAll outputs old.content mid.content → mid.content.name Report ≡ [] → SentWhole told Report text mid new → told
     → SendsAll outputs old.content new.content
 whole_sends told text outputs old mid new sends unnamed sent t = record {
   sent = λ p other.
@@ -159,10 +160,10 @@ whole_sends told text outputs old mid new sends unnamed sent t = record {
       ∙ sends.files name;
 }
 
-whole_text : (told : Type 0) (text : List ℕ) (mid new : World) → mid.content.sent Report ≡ [] → IsSentWhole told text mid new → told → new.content.sent Report ≡ text
+whole_text : (told : Type 0) (text : List ℕ) (mid new : World) → mid.content.sent Report ≡ [] → SentWhole told Report text mid new → told → new.content.sent Report ≡ text
 whole_text told text mid new silent sent t = ap (λ (c : Content). c.sent Report) (sent.content t) ∙ ap (λ (l : List ℕ). l ++ text) silent
 
-whole_read_out : (told : Type 0) (text : List ℕ) (mid new : World) (v : Verdict) → IsSentWhole told text mid new → told → IsReadOut v mid → IsReadOut v new
+whole_read_out : (told : Type 0) (text : List ℕ) (mid new : World) (v : Verdict) → SentWhole told Report text mid new → told → IsReadOut v mid → IsReadOut v new
 whole_read_out told text mid new v sent t out p reading = elim (cases_eq (port_no p) (port_no Report)) [
   | inl same ↦
       let e : p ≡ Report = port_no-injective p Report same in
@@ -173,7 +174,7 @@ whole_read_out told text mid new v sent t out p reading = elim (cases_eq (port_n
 ]
 
 pub whole_reported : (told : Type 0) (request : Option Request) (answer : Answer) (old mid new : World) → IsWorked told request answer old mid
-    → IsSentWhole told answer.report mid new → (request ≡ None → ⊥) → EndsAs told request answer.status old new
+    → SentWhole told Report answer.report mid new → (request ≡ None → ⊥) → EndsAs told request answer.status old new
 whole_reported told request answer old mid new worked sent asked =
     ends_on_files told request answer.status old new worked.on_files asked
     (closed_after told answer.report mid new worked.others sent)
@@ -230,7 +231,7 @@ cut_short told request answer old mid new worked part = record {
 nothing_yet : (told : Type 0) (w : World) → AtStart told w → told → SendsAll [] w.content w.content
 nothing_yet told w start t = nothing_due [] w.content w.content refl (start.sent t) (λ name. refl)
 
-pub misused_whole : (told : Type 0) (text : List ℕ) (old new : World) → AtStart told old → text ≡ line (codes "words not understood") → IsSentWhole told text old new
+pub misused_whole : (told : Type 0) (text : List ℕ) (old new : World) → AtStart told old → text ≡ line (codes "words not understood") → SentWhole told Report text old new
     → Reported told None Misused old new
 misused_whole told text old new start is sent = record {
   understood = (λ e. refl, λ e. refl);

@@ -1,5 +1,5 @@
 -- What the command that finds a largest weakly stable matching comes to.
-use Rattle.std.proofs.Common.{◌≡◌, ℕ, List, [], Some, Result, Ok, Err, IfOk, IsTrue, ap, ◌∙◌, sym, subst, ◌⊎◌, inl, inr, option_map}
+use Rattle.std.proofs.Common.{◌≡◌, ℕ, List, [], Some, Result, Ok, Err, IfOk, IsTrue, ap, ◌∙◌, sym, subst, option_map}
 use Rattle.hrt_base.specs.declared.port.Port.TheVariants.{Instance}
 use Rattle.hrt_base.specs.Calls.{AtStart}
 use Rattle.hrt_base.specs.World.{World}
@@ -16,7 +16,7 @@ use Rattle.hrt_cli.specs.Loading.{IsRejected, StopsLoading}
 use Rattle.hrt_cli.specs.Requests.{solve}
 use Rattle.hrt_cli.specs.Verdicts.{ComesTo, Files, Rejection, exceeded, refused, rejected, solved, due, lists_in, of_few_terms, solve_verdict, within}
 use Rattle.hrt_cli.proofs.FewTerms.{tried_have_few}
-use Rattle.hrt_cli.proofs.ReadOut.{reads_one, rejection_on_files}
+use Rattle.hrt_cli.proofs.ReadOut.{passed_as, reads_one, rejection_on_files}
 
 -- the verdict on lists, and on a refusal
 pub solved_due : (files : Files) (name bytes : List ℕ) (lists : Lists) → files name ≡ Some bytes → of_few_terms (within TriedPairs (lists_in bytes)) ≡ Ok lists
@@ -26,10 +26,6 @@ solved_due files name bytes lists file spelled = ap (option_map solve_verdict) f
 pub rejected_due : (files : Files) (name bytes : List ℕ) (rejection : Rejection) → files name ≡ Some bytes → of_few_terms (within TriedPairs (lists_in bytes)) ≡ Err rejection
     → ComesTo (Some (solve name)) files (rejected rejection)
 rejected_due files name bytes rejection file is = ap (option_map solve_verdict) file ∙ ap (λ (r : Result Lists Rejection). Some (due r solved)) (sym (tried_have_few (lists_in bytes)) ∙ is)
-
-passed_as : (rejection : Rejection) (l : List ℕ) → (l ≡ []) ⊎ (rejection ≡ exceeded InstanceBytes) → (l ≡ []) ⊎ (rejected rejection ≡ rejected (exceeded InstanceBytes))
-passed_as rejection l (inl e) = inl e
-passed_as rejection l (inr e) = inr (ap rejected e)
 
 pub solve_rejected : (told : Type 0) (name : List ℕ) (rejection : Rejection) (answer : Answer) (old new : World) → AtStart told old
     → IsRejected told name TriedPairs rejection old new → IsAnswer (rejected rejection) answer → IsAnswered told (Some (solve name)) answer old new
@@ -41,7 +37,7 @@ solve_rejected told name rejection answer old new start read answered = record {
         rejected rejection,
         rejected_due old.content.file name text.0 rejection text.1 text.2,
         answered,
-        reads_one told Instance old new (rejected rejection) start read.begun (passed_as rejection (new.content.rest Instance) (read.out t)),
+        reads_one told Instance old new (rejected rejection) start read.begun (passed_as rejection InstanceBytes (new.content.rest Instance) (read.out t)),
       );
 }
 

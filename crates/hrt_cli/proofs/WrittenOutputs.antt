@@ -21,7 +21,6 @@ use Rattle.hrt_cli.specs.Outputs.{Output, files_after, outputs_of}
 use Rattle.hrt_cli.specs.Requests.{Request}
 use Rattle.hrt_cli.specs.Verdicts.{ComesTo, Files, IsTaken, Rejection, Verdict, exceeded, lists_in, misused, of_few_terms, rejected, status_of, within}
 use Rattle.hrt_cli.specs.Writing.{Writes, WritesAll, WritesFronts, WritesNothing}
-use Rattle.hrt_cli.proofs.AuditedPairs.{passed_as}
 use Rattle.hrt_cli.proofs.ReadOut.{reads_one, rejection_on_files}
 use Rattle.hrt_cli.proofs.Runs.{file_before, leaves_nothing, name_before, nothing_due, read_ends, report_open, sent_before, writes_report}
 

@@ -4,7 +4,7 @@ use Rattle.hrt_cli.specs.declared.limit.Limit.{Limit}
 use Rattle.hrt_cli.specs.declared.limit.Limit.TheVariants.{Residents, Hospitals, Pairs, TriedPairs, Terms, InstanceBytes, PairsBytes, ModelBytes, Variables, Rows, ProofBytes}
 use Rattle.rank_tables.specs.WellFormed.{most_residents, most_hospitals, most_pairs, most_terms}
 use Rattle.opb_text.specs.Limits.{most_rows, most_variables}
-use Rattle.hrt_solve.specs.Judged.{most_proof_bytes}
+use Rattle.proof_checker.specs.Limits.{most_proof_bytes}
 
 abbrev pub name_of : Limit → List ℕ
 name_of Residents = codes "residents"

@@ -6,6 +6,7 @@ use Rattle.rank_tables.specs.Instance.{Lists, pair_count, pair_at, one_sided}
 use Rattle.rank_tables.specs.WellFormed.{names_of_residents, names_of_hospitals}
 use Rattle.rank_tables.specs.Stability.{Best}
 use Rattle.rank_tables.specs.Tables.{IsPairNo, numbers_of}
+use Rattle.hrt_reader.specs.PairsText.{pair_text}
 use Rattle.hrt_reader.specs.Spelling.{name_at}
 use Rattle.stability_audit.specs.declared.verdict.Verdict.{Verdict as Audit}
 use Rattle.stability_audit.specs.declared.verdict.Verdict.TheVariants.{Stable, ResidentTwice, OverCapacity, Blocked}
@@ -41,8 +42,9 @@ abbrev pub names_line : Lists → ℕ → List ℕ
 names_line lists p =
     name_at (names_of_residents lists) (pair_at lists p).resident ++ 32 ∷ line (name_at (names_of_hospitals lists) (pair_at lists p).hospital)
 
+-- the line of a pair, as a text of pairs has it
 abbrev pub pair_line : Lists → ℕ → List ℕ
-pair_line lists p = codes "pair " ++ names_line lists p
+pair_line lists p = line (pair_text lists p)
 
 abbrev pub instance_lines : Lists → List ℕ
 instance_lines lists =

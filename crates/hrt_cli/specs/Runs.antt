@@ -3,9 +3,9 @@ use Rattle.std.specs.Prelude.{◌≡◌, ◌⊎◌, ◌≤◌, ◌<◌, ◌↔�
 use Rattle.std.specs.List.Sorted.{IsStrictlyIncreasing}
 use Rattle.hrt_base.specs.declared.port.Port.{Port}
 use Rattle.hrt_base.specs.declared.port.Port.TheVariants.{Model, Proof, Report}
-use Rattle.hrt_base.specs.declared.host.Begun.TheVariants.{Idle, Writing}
+use Rattle.hrt_base.specs.declared.host.Begun.TheVariants.{Writing}
 use Rattle.hrt_base.specs.Calls.{Rose}
-use Rattle.hrt_base.specs.World.{World, Content, put, appended, sealed}
+use Rattle.hrt_base.specs.World.{World, Content}
 use Rattle.hrt_cli.specs.declared.status.Status.{Status}
 use Rattle.hrt_cli.specs.declared.status.Status.TheVariants.{Done, Misused, InstanceRefused, ReadFault, WriteFault, NoMemory, LimitExceeded, ProofRefused, AuditNo, Bounded, PairsRefused}
 use Rattle.rank_tables.specs.Instance.{Lists}
@@ -29,13 +29,6 @@ use Rattle.hrt_cli.specs.Requests as ask
 use Rattle.hrt_cli.specs.Requests.{Request}
 use Rattle.hrt_cli.specs.Statuses.{code_of}
 use Rattle.hrt_cli.specs.Verdicts.{Verdict, ComesTo, IsTaken, status_of}
-
--- a text was written on the report, which was sealed
-pub record IsSentWhole (told : Type 0) (text : List ℕ) (old new : World) : Type 0 where
-  pub later : old.write_faults ≤ new.write_faults
-  pub read_faults : new.read_faults ≡ old.read_faults
-  pub begun : new.begun ≡ put Report Idle old.begun
-  pub content : told → new.content ≡ sealed Report (appended Report text old.content)
 
 -- the report of what the words and the files come to was sent whole
 pub record IsReported (request : Option Request) (status : Status) (old new : World) : Type 0 where

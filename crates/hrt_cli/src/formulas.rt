@@ -1,7 +1,9 @@
 // Models from files.
 ghost use Rattle.std.specs.Prelude.{◌≡◌, ◌≤◌, length, IfErr, IfOk, Ok};
 ghost use Rattle.opb_text.specs.Limits.{IsWithinLimits};
+ghost use Rattle.hrt_cli.specs.declared.limit.Limit.TheVariants.{ModelBytes};
 ghost use Rattle.hrt_cli.specs.Inputs.{BeginsAtMost};
+ghost use Rattle.hrt_cli.specs.Limits.{most};
 ghost use Rattle.hrt_cli.specs.Proofs.{IsFormulaRead, StopsModel, StopsModelText};
 ghost use Rattle.hrt_cli.specs.Verdicts.{formula_in};
 
@@ -35,7 +37,7 @@ pub fn load_formula<H: Host>(alloc: Global, host: &mut H, name: &str) -> Result<
 
 // The formula that a text spells.
 fn formula_from(alloc: Global, bytes: &[u8]) -> Result<Formula, Stop>
-    requires { length bytes.now ≤ 268435456 }
+    requires { length bytes.now ≤ most ModelBytes }
     ensures formula { IfOk result (λ f. formula_in bytes.now ≡ Ok f) }
     ensures within { IfOk result IsWithinLimits }
     ensures stopped { IfErr result (StopsModelText (formula_in bytes.now)) }

@@ -5,6 +5,7 @@ ghost use Rattle.rank_tables.specs.Numbers.{is_distinct};
 ghost use Rattle.rank_tables.specs.Tables.{numbers_of, IsPairNo};
 ghost use Rattle.rank_tables.specs.Terms.{model_terms};
 ghost use Rattle.rank_tables.specs.WellFormed.{most_pairs, most_terms};
+ghost use Rattle.hrt_cli.specs.declared.limit.Limit.TheVariants.{InstanceBytes, PairsBytes};
 ghost use Rattle.hrt_cli.specs.Inputs.{BeginsAtMost};
 ghost use Rattle.hrt_cli.specs.Limits.{most, IsOnPairs};
 ghost use Rattle.hrt_cli.specs.Loading.{ArePairsLoaded, IsLoaded, StopsLoading, StopsLoadingPairs, StopsPairsText, StopsText};
@@ -47,7 +48,7 @@ pub fn load<H: Host>(
 
 // The instance that a text spells.
 fn instance_in(alloc: Global, bytes: &[u8], limit: Limit) -> Result<Instance, Stop>
-    requires short { length bytes.now ≤ 67108864 }
+    requires short { length bytes.now ≤ most InstanceBytes }
     requires few { most limit ≤ most_pairs }
     requires on_pairs { IsOnPairs limit }
     ensures lists { IfOk result (λ lists. of_few_terms (within limit (lists_in bytes.now)) ≡ Ok lists) }
@@ -113,7 +114,7 @@ pub fn load_pairs<H: Host>(
 
 // The pairs that a text spells.
 fn pairs_in(alloc: Global, bytes: &[u8], inst: &Instance) -> Result<Vec<PairNo>, Stop>
-    requires { length bytes.now ≤ 67108864 }
+    requires { length bytes.now ≤ most PairsBytes }
     ensures pairs { IfOk result (λ pairs. audit_verdict inst.now bytes.now ≡ audited inst.now (numbers_of pairs.items)) }
     ensures in_range { IfOk result (λ pairs. All (λ p. IsPairNo inst.now p.0) pairs.items) }
     ensures distinct { IfOk result (λ pairs. IsTrue (is_distinct (numbers_of pairs.items))) }

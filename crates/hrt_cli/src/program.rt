@@ -2,10 +2,11 @@
 ghost use Rattle.std.specs.Prelude.{◌≡◌, ◌⊎◌, ◌==◌, ℕ, List, true, IfOk, IfErr, OnOk, OnErr, Some, None};
 ghost use Rattle.hrt_base.specs.declared.port.Port.{Port};
 ghost use Rattle.hrt_base.specs.Calls.{AtStart, Rose, SentPart};
+ghost use Rattle.hrt_solve.specs.Writing.{SentWhole};
 ghost use Rattle.hrt_cli.specs.Answers.{EndsEarly, IsCutShort, IsWorked, LeavesFronts, SendsNothing};
 ghost use Rattle.hrt_cli.specs.Ports.{ReadsInputs, WritesOutputs};
 ghost use Rattle.hrt_cli.specs.Requests.{asked_by, audit, bound, check, model, quick, request_of, solve, texts_of, verify};
-ghost use Rattle.hrt_cli.specs.Runs.{EndsAs, Finishes, IsComplete, IsDecided, IsDue, IsSentWhole, KeepsFiles, KeepsOthers, PrintsAudit, PrintsBest, PrintsBound, PrintsClaim, PrintsMet, PrintsOpen, PrintsSizes, WritesModel, has_report, is_code, keeps_files};
+ghost use Rattle.hrt_cli.specs.Runs.{EndsAs, Finishes, IsComplete, IsDecided, IsDue, KeepsFiles, KeepsOthers, PrintsAudit, PrintsBest, PrintsBound, PrintsClaim, PrintsMet, PrintsOpen, PrintsSizes, WritesModel, has_report, is_code, keeps_files};
 
 use crate::auditing::audit;
 use crate::checking::check;
@@ -100,7 +101,7 @@ fn answer_to<H: Host>(alloc: Global, host: &mut H, command: Command) -> Result<A
 #[tactic(auto, using(hrt_base::proofs::Pieces::sent_failed))]
 fn send<H: Host>(host: &mut H, text: &[u8]) -> Result<(), Failed>
     requires { (H.world host.old).begun Port.Report ≡ Begun.Writing }
-    ensures sent { OnOk result (IsSentWhole H.told text.now (H.world host.old) (H.world host.new)) }
+    ensures sent { OnOk result (SentWhole H.told Port.Report text.now (H.world host.old) (H.world host.new)) }
     ensures failed { OnErr result (SentPart H.told Port.Report text.now (H.world host.old) (H.world host.new)) }
 {
     write_all(host, Port::Report, text)?;

@@ -98,6 +98,7 @@ impl Report {
     }
 
     /// Adds the line that names a pair.
+    #[tactic(auto, using(hrt_reader::proofs::PairsBack::pair_pieces))]
     pub fn push_pair(&mut self, inst: &Instance, pair: PairNo) -> Result<(), NoMemory>
         requires { IsPairNo inst.now pair.0 }
         ensures { OnOk result (self.new ≡ self.old ++ pair_line inst.now pair.0) }

@@ -18,7 +18,7 @@ use Rattle.derivation.specs.Steps.{first_derived}
 use Rattle.proof_rules.specs.Held.{Held}
 use Rattle.rank_tables.specs.Stability.{is_matching}
 use Rattle.capacity_bound.specs.Bound.{DerivesBound, bound_row}
-use Rattle.capacity_bound.specs.Ceiling.{BoundsMatchings}
+use Rattle.capacity_bound.specs.Ceiling.{BoundsMatchings, IsCeiling}
 use Rattle.pair_reduction.specs.Reduced.{AreInNone, GoesOn, HoldsUnits, MakesFew}
 use Rattle.hrt_solve.specs.Gauged.{AreNumbersOf, HasBoundRow, IsGauged, IsMost, value_of}
 
@@ -32,7 +32,7 @@ counted_to map (suc n) h =
     ∙ sym (sum_by-append (λ o. cond (is_some o) 1 0) (take n map) (get_or map n None ∷ []))
     ∙ ap (count_by is_some) (sym (take-suc map n None (omega arith)))
 
-pub numbers_are : (lists : Lists) (map : Deletions) (deleted top : ℕ) → AreGone lists (is_deleted map) → length map ≡ pair_count lists → deleted ≡ deleted_count map → top ≡ ceiling lists (is_deleted map) → AreNumbersOf lists deleted top
+pub numbers_are : (lists : Lists) (map : Deletions) (deleted top : ℕ) → AreGone lists (is_deleted map) → length map ≡ pair_count lists → deleted ≡ deleted_count map → IsCeiling lists top → AreNumbersOf lists deleted top
 numbers_are lists map deleted top are whole d c = record {
   gone = is_deleted map;
   are = are;

@@ -6,18 +6,19 @@ use Rattle.rank_tables.specs.Numbers.{numbers_to}
 use Rattle.rank_tables.specs.Instance.{Lists, pair_count}
 use Rattle.rank_tables.specs.Stability.{is_weakly_stable}
 use Rattle.stability_model.specs.Model.{formula}
-use Rattle.stability_model.specs.Gone.{AreGone, Pairs, ceiling}
+use Rattle.stability_model.specs.Gone.{AreGone, Pairs}
 use Rattle.proof_lines.specs.declared.line.Claim.{Claim}
 use Rattle.proof_lines.specs.declared.line.Claim.TheVariants.{Bounds}
 use Rattle.proof_rules.specs.Claims.{at_least_row}
 use Rattle.derivation.specs.Derived.{Derived}
+use Rattle.capacity_bound.specs.Ceiling.{IsCeiling}
 
 -- so many pairs are gone, and this is the ceiling
 pub record AreNumbersOf (lists : Lists) (deleted top : ℕ) : Type 0 where
   pub gone : Pairs
   pub are : AreGone lists gone
   pub deleted_is : deleted ≡ count_by gone (numbers_to (pair_count lists))
-  pub ceiling_is : top ≡ ceiling lists gone
+  pub ceiling_is : IsCeiling lists top
 
 -- no weakly stable matching has more pairs
 abbrev pub IsMost : Lists → ℕ → Type 0

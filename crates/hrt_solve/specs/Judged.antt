@@ -1,5 +1,5 @@
 -- What judging the proof on its port comes to.
-use Rattle.std.specs.Prelude.{◌≡◌, ◌≤◌, ◌^◌, ℕ, List, [], length, Some}
+use Rattle.std.specs.Prelude.{◌≡◌, ◌≤◌, ℕ, List, [], length, Some}
 use Rattle.hrt_base.specs.declared.port.Port.TheVariants.{Proof as ProofPort}
 use Rattle.hrt_base.specs.declared.failure.ReadEnd.{ReadEnd}
 use Rattle.hrt_base.specs.declared.failure.ReadEnd.TheVariants as end
@@ -10,13 +10,10 @@ use Rattle.proof_rules.specs.Texts.{HasVerdict, Verdict}
 use Rattle.proof_checker.specs.declared.refusal.ProofRefusal.{ProofRefusal}
 use Rattle.proof_checker.specs.declared.refusal.ProofRefusal.TheVariants as checker
 use Rattle.proof_checker.specs.Answers.{refusal_verdict}
+use Rattle.proof_checker.specs.Limits.{most_proof_bytes}
 use Rattle.proof_checker.specs.Standing.{Checked, StandsFor}
 use Rattle.hrt_solve.specs.declared.refusal.CheckRefusal.{CheckRefusal}
 use Rattle.hrt_solve.specs.declared.refusal.CheckRefusal.TheVariants.{Failed, TooLong, Proof, NoMemory}
-
--- the most bytes that a proof has
-abbrev pub most_proof_bytes : ℕ
-most_proof_bytes = 2 ^ 40
 
 -- ---- what was read
 

@@ -1,5 +1,5 @@
 -- What a checker shows of the bytes that it was fed, and for which texts it stands.
-use Rattle.std.specs.Prelude.{◌≡◌, ◌↔◌, ℕ, ◌+◌, ◌≤◌, ◌^◌, nat_le, if◌then◌else◌, List, ◌++◌, length, Option, Some, None, Bool, true, false}
+use Rattle.std.specs.Prelude.{◌≡◌, ◌↔◌, ℕ, ◌+◌, ◌≤◌, nat_le, if◌then◌else◌, List, ◌++◌, length, Option, Some, None, Bool, true, false}
 use Rattle.pb_rows.specs.Formula.{Formula}
 use Rattle.opb_text.specs.Limits.{IsWithinLimits}
 use Rattle.proof_lines.specs.Spelling.{most_bytes}
@@ -8,6 +8,7 @@ use Rattle.proof_rules.specs.Valid.{Place, Start}
 use Rattle.proof_rules.specs.Texts.{Reaches, Stops, cut, whole_lines}
 use Rattle.proof_checker.specs.declared.phase.Phase.{Phase}
 use Rattle.proof_checker.specs.declared.phase.Phase.TheVariants.{Reading, Finished}
+use Rattle.proof_checker.specs.Limits.{most_proof_bytes}
 
 -- The formula, all bytes that were fed, and what the checker does next.
 pub record Checked : Type 0 where
@@ -18,7 +19,7 @@ pub record Checked : Type 0 where
 -- what a checker was fed
 pub record IsFed (formula : Formula) (bytes : List ℕ) : Type 0 where
   pub limits : IsWithinLimits formula
-  pub few : length bytes ≤ 2 ^ 40
+  pub few : length bytes ≤ most_proof_bytes
 
 -- it hasn't judged yet
 abbrev pub is_open : Phase → Bool

@@ -1,8 +1,9 @@
 // The checker.
-ghost use Rattle.std.specs.Prelude.{◌≡◌, ◌+◌, ◌^◌, ◌≤◌, ℕ, List, [], ◌++◌, length, IsTrue, IfOk, IfErr, OnOk, OnErr, Err};
+ghost use Rattle.std.specs.Prelude.{◌≡◌, ◌+◌, ◌≤◌, ℕ, List, [], ◌++◌, length, IsTrue, IfOk, IfErr, OnOk, OnErr, Err};
 ghost use Rattle.opb_text.specs.Limits.{IsWithinLimits};
 ghost use Rattle.proof_rules.specs.Sound.{IsTrueClaim};
 ghost use Rattle.proof_checker.specs.declared.phase.Phase.TheVariants.{Finished, OutOfMemory, Reading};
+ghost use Rattle.proof_checker.specs.Limits.{most_proof_bytes};
 ghost use Rattle.proof_checker.specs.Standing.{StandsFor, StaysStanding, is_open};
 ghost use Rattle.proof_checker.specs.Answers.{Judges};
 
@@ -50,7 +51,7 @@ impl Checker {
     /// Takes the next bytes of the proof. After want of memory every call answers that.
     pub fn feed(&mut self, _alloc: Global, piece: &[u8]) -> Result<(), ProofRefusal>
         requires open { IsTrue (is_open self.old.phase) }
-        requires bytes { length self.old.bytes + length piece.now ≤ 2 ^ 40 }
+        requires bytes { length self.old.bytes + length piece.now ≤ most_proof_bytes }
         ensures fed { OnOk result (self.new ≡ record self.old { bytes = self.old.bytes ++ piece.now }) }
         ensures stands { OnOk result (StaysStanding piece.now self.old self.new) }
         ensures memory { self.old.phase ≡ OutOfMemory → result ≡ Err ProofRefusal.NoMemory }

@@ -1,5 +1,5 @@
 // The verdict on a proof: its lines, one after another, and the bytes behind the last line feed.
-ghost use Rattle.std.specs.Prelude.{◌≡◌, ◌≤◌, ◌^◌, ℕ, List, length, IfErr, IfOk, IfSome};
+ghost use Rattle.std.specs.Prelude.{◌≡◌, ◌≤◌, ℕ, List, length, IfErr, IfOk, IfSome};
 ghost use Rattle.opb_text.specs.Limits.{IsWithinLimits};
 ghost use Rattle.proof_rules.specs.Texts.{HasVerdict};
 ghost use Rattle.proof_rules.specs.Sound.{HasNormalRows, IsTrueClaim};
@@ -7,6 +7,7 @@ ghost use Rattle.proof_rules.specs.States as states;
 ghost use Rattle.pb_rows.specs.Formula as formulas;
 ghost use Rattle.proof_checker.specs.Answers.{verdict_of};
 ghost use Rattle.proof_checker.specs.Endings.{EndsWith, IsUnread, StopsFirst, Takes, TooBigAt};
+ghost use Rattle.proof_checker.specs.Limits.{most_proof_bytes};
 ghost use Rattle.proof_checker.specs.Places.{HasRoomAt, IsAt, IsSoundAt, place_of};
 
 use crate::ProofRefusal;
@@ -96,7 +97,7 @@ fn judge_lines(
     requires limits { IsWithinLimits formula.now }
     requires normal { HasNormalRows formula.now }
     requires first { state ≡ record { vars = formula.now.vars; state = states.first_state formula.now } }
-    requires few { length bytes.now ≤ 2 ^ 40 }
+    requires few { length bytes.now ≤ most_proof_bytes }
     ensures verdict { IfSome (verdict_of result) (HasVerdict formula.now bytes.now) }
     ensures sound { IfOk result (IsTrueClaim formula.now) }
 {
@@ -119,7 +120,7 @@ fn judge_lines(
 /// The verdict on a proof.
 pub fn judge(alloc: Global, formula: &Formula, bytes: &[u8]) -> Result<Claim, ProofRefusal>
     requires limits { IsWithinLimits formula.now }
-    requires few { length bytes.now ≤ 2 ^ 40 }
+    requires few { length bytes.now ≤ most_proof_bytes }
     ensures verdict { IfSome (verdict_of result) (HasVerdict formula.now bytes.now) }
     ensures sound { IfOk result (IsTrueClaim formula.now) }
 {

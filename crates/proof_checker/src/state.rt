@@ -8,7 +8,7 @@ ghost use Rattle.opb_text.specs.Limits.{IsWithinLimits, most_rows};
 ghost use Rattle.rup_engine.specs.Live.{IsOver};
 ghost use Rattle.proof_lines.specs.Texts.{is_made_step};
 ghost use Rattle.proof_rules.specs.Pol.{pol_row};
-ghost use Rattle.proof_rules.specs.States.{deleted, first_state, live_rows, smaller};
+ghost use Rattle.proof_rules.specs.States.{deleted, first_state, live_rows};
 ghost use Rattle.proof_rules.specs.Claims.{HasStronger};
 ghost use Rattle.proof_rules.specs.Sound.{HasNormalRows};
 ghost use Rattle.proof_checker.specs.Faults.{Answers};
@@ -19,7 +19,7 @@ use hrt_base::{NoMemory, RowNo};
 use opb_text::Formula;
 use pb_rows::Row;
 use proof_lines::PolStep;
-use proof_steps::{LiveRows, pol_row};
+use proof_steps::{LiveRows, pol_row, smaller};
 use rup_engine::Live;
 use std::alloc::Global;
 use std::marker::Model;
@@ -73,16 +73,6 @@ fn remove_all(alloc: Global, live: &mut Live, ids: &[RowNo]) -> Result<(), Fault
         }
     }
     Ok(())
-}
-
-/// The smaller one of a value and the least before it, if there was one.
-fn smaller(least: Option<i128>, value: i128) -> i128
-    ensures { result ≡ smaller least value }
-{
-    match least {
-        None => value,
-        Some(before) => { if value < before { value } else { before } }
-    }
 }
 
 impl State {

@@ -10,4 +10,4 @@ mod stack;
 pub use live::LiveRows;
 pub use pol::pol_row;
 pub use refusal::StepRefusal;
-pub use solution::{improvement_row, objective_value};
+pub use solution::{improvement_row, objective_value, smaller};

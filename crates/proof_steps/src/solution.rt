@@ -4,7 +4,7 @@ ghost use Rattle.std.specs.List.{All};
 ghost use Rattle.pb_rows.specs.Points.{IsCovered, Point, is_true_at, point_of, signed_share, value_at};
 ghost use Rattle.pb_rows.specs.Normal.{sizes};
 ghost use Rattle.pb_rows.specs.Rows.{Fits, add};
-ghost use Rattle.proof_rules.specs.States.{at_most_row, minus_terms};
+ghost use Rattle.proof_rules.specs.States.{at_most_row, minus_terms, smaller};
 
 use hrt_base::{Lit, NoMemory, Term};
 use pb_rows::{Row, RowRefusal};
@@ -99,4 +99,14 @@ pub fn improvement_row(alloc: Global, objective: &[Term], value: i128) -> Result
     let one = one_more(alloc)?;
     add_that_fits(&mut row, alloc, &one)?;
     Ok(row)
+}
+
+/// The smaller one of a value and the least before it, if there was one.
+pub fn smaller(least: Option<i128>, value: i128) -> i128
+    ensures { result ≡ smaller least value }
+{
+    match least {
+        None => value,
+        Some(before) => { if value < before { value } else { before } }
+    }
 }

@@ -1,6 +1,7 @@
 // What proofs are judged as.
-ghost use Rattle.std.specs.Prelude.{◌+◌, ◌<◌, ◌≤◌, ◌^◌, IfOk, IsTrue, OnOk, length};
+ghost use Rattle.std.specs.Prelude.{◌+◌, ◌<◌, ◌≤◌, IfOk, IsTrue, OnOk, length};
 ghost use Rattle.opb_text.specs.Limits.{IsWithinLimits};
+ghost use Rattle.proof_checker.specs.Limits.{most_proof_bytes};
 ghost use Rattle.proof_checker.specs.Standing.{is_open};
 
 use crate::{Checker, ProofRefusal};
@@ -40,7 +41,7 @@ fn feed_pieces(
 ) -> Result<(), ProofRefusal>
     requires some { 0 < piece }
     requires open { IsTrue (is_open checker.old.phase) }
-    requires few { length checker.old.bytes + length proof.now ≤ 2 ^ 40 }
+    requires few { length checker.old.bytes + length proof.now ≤ most_proof_bytes }
     ensures { OnOk result (IsTrue (is_open checker.new.phase)) }
 {
     let mut left = proof;

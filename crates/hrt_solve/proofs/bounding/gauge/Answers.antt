@@ -9,8 +9,10 @@ use Rattle.hrt_solve.proofs.Gauging.{gauged, most, next_small, numbers_are, unlo
 use Rattle.hrt_solve.proofs.bounding.gauge.Goals as goal
 
 pub returns-clause-numbers : goal.returns-clause-numbers
-returns-clause-numbers c = numbers_are c.args.inst.now c.in_ok-gone.gone c.count.result c.ceiling.result (subst (λ (l : Lists). AreGone l (is_deleted c.in_ok-gone.gone)) (ap (λ (d : Derived). d.lists) c.requires.first) c.in_ok-gone.ensures.gone)
-    (c.in_ok-gone.ensures.pairs ∙ ap (λ (d : Derived). pair_count d.lists) c.requires.first) c.count.ensures c.ceiling.ensures.value
+returns-clause-numbers c =
+    let are : AreGone c.args.inst.now (is_deleted c.in_ok-gone.gone) = subst (λ (l : Lists). AreGone l (is_deleted c.in_ok-gone.gone)) (ap (λ (d : Derived). d.lists) c.requires.first) c.in_ok-gone.ensures.gone in
+    numbers_are c.args.inst.now c.in_ok-gone.gone c.count.result c.ceiling.result are
+    (c.in_ok-gone.ensures.pairs ∙ ap (λ (d : Derived). pair_count d.lists) c.requires.first) c.count.ensures (c.ceiling.ensures.exact are)
 
 pub returns-clause-most : goal.returns-clause-most
 returns-clause-most c = most c.args.inst.now c.in_ok-gone.gone c.ceiling.result c.ceiling.ensures.bounds (subst (λ (l : Lists). AreInNone l c.in_ok-gone.gone) (ap (λ (d : Derived). d.lists) c.requires.first) c.in_ok-gone.ensures.in_none)

@@ -1,6 +1,6 @@
 use Rattle.std.proofs.Common.{arith}
 use Rattle.hrt_base.proofs.Pieces.{taken_past, taken_within}
-use Rattle.hrt_solve.specs.Judged.{most_proof_bytes}
+use Rattle.proof_checker.specs.Limits.{most_proof_bytes}
 use Rattle.hrt_solve.proofs.reading.feed_proof.Goals as goal
 
 pub returns-then-count-left-clause-ended : goal.returns-then-count-left-clause-ended

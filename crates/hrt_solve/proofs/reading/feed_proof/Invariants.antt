@@ -3,7 +3,7 @@ use Rattle.hrt_base.specs.declared.port.Port.TheVariants.{Proof}
 use Rattle.hrt_base.specs.Calls.{Taken}
 use Rattle.proof_checker.specs.declared.phase.Phase.TheVariants.{Reading}
 use Rattle.proof_checker.specs.Standing.{StandsFor}
-use Rattle.hrt_solve.specs.Judged.{most_proof_bytes}
+use Rattle.proof_checker.specs.Limits.{most_proof_bytes}
 use Rattle.hrt_solve.proofs.reading.feed_proof.Given as goal
 
 abbrev pub invariant-loop-count : goal.invariant-loop-count

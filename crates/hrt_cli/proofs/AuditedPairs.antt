@@ -1,5 +1,5 @@
 -- What the command that audits pairs comes to.
-use Rattle.std.proofs.Common.{◌≡◌, ◌⊎◌, ◌↔◌, ◌<◌, ◌==◌, ◌||◌, ◌&&◌, ℕ, Bool, true, false, cond, nat_le, List, [], ◌∷◌, length, All, Option, Some, None, Result, Ok, Err, IfOk, option_map, IsTrue, refl, sym, ◌∙◌, ap, subst, inl, inr, eq-eqb}
+use Rattle.std.proofs.Common.{◌≡◌, ◌↔◌, ◌<◌, ◌==◌, ◌||◌, ◌&&◌, ℕ, Bool, true, false, cond, nat_le, List, [], ◌∷◌, length, All, Option, Some, None, Result, Ok, Err, IfOk, option_map, IsTrue, refl, sym, ◌∙◌, ap, subst, inl, eq-eqb}
 use Rattle.std.specs.List.{find}
 use Rattle.std.proofs.lemmas.Bool.{and_from, and_parts, leb-true, le-leb, ltb-true, or_left, or_right}
 use Rattle.std.proofs.lemmas.List.Elements.{All-weaker}
@@ -17,18 +17,20 @@ use Rattle.rank_tables.proofs.Numbers.{is_in-below, is_in-numbers_to}
 use Rattle.stability_audit.specs.declared.verdict.Verdict.{Verdict as Audit}
 use Rattle.stability_audit.specs.declared.verdict.Verdict.TheVariants.{Stable, ResidentTwice, OverCapacity, Blocked}
 use Rattle.stability_audit.specs.Verdict.{ArePairs, blocking_pair, first_reason, hospital_over, resident_twice, verdict_of as audit_of}
+use Rattle.hrt_inputs.specs.declared.limit.Limit.TheVariants as limit
+use Rattle.hrt_inputs.specs.declared.stop.Stop.{Stop}
+use Rattle.hrt_inputs.specs.declared.stop.Stop.TheVariants.{Refused, Exceeded, PairsRefused, ModelRefused, ProofRefused, ReadFault, NoMemory}
+use Rattle.hrt_inputs.specs.Loading.{ArePairsLoaded, ArePairsRejected, IsLoaded, IsRejected, StopsLoadingPairs}
+use Rattle.hrt_inputs.specs.Rejections.{Rejection, exceeded}
 use Rattle.hrt_cli.specs.declared.answer.Answer.{Answer}
-use Rattle.hrt_cli.specs.declared.limit.Limit.TheVariants as limit
 use Rattle.hrt_cli.specs.declared.status.Status.{Status}
 use Rattle.hrt_cli.specs.declared.status.Status.TheVariants.{Done, AuditNo}
 use Rattle.hrt_cli.specs.declared.stop.Ended.{Ended}
-use Rattle.hrt_cli.specs.declared.stop.Stop.{Stop}
-use Rattle.hrt_cli.specs.declared.stop.Stop.TheVariants.{Refused, Exceeded, PairsRefused, ModelRefused, ProofRefused, ReadFault, NoMemory}
 use Rattle.hrt_cli.specs.Answers.{Explains, IsAnswer, IsAnswered, is_on_files}
-use Rattle.hrt_cli.specs.Loading.{ArePairsLoaded, ArePairsRejected, IsLoaded, IsRejected, StopsLoadingPairs}
 use Rattle.hrt_cli.specs.Reports.{NamesDeclared}
 use Rattle.hrt_cli.specs.Requests.{audit}
-use Rattle.hrt_cli.specs.Verdicts.{ComesTo, Rejection, Verdict, audit_status, audit_verdict, audited, exceeded, on_file, on_lists, rejected}
+use Rattle.hrt_cli.specs.Verdicts.{ComesTo, Verdict, audit_verdict, audited, on_file, on_lists, on_pairs, rejected}
+use Rattle.hrt_cli.specs.Statuses.{audit_status}
 use Rattle.hrt_cli.proofs.ReadOut.{passed_as, reads_one, reads_two, rejection_on_files, then_only_read}
 
 -- ---- whom an audit names
@@ -97,7 +99,7 @@ audit_answered told i q lists pairs answer old mid new start loaded read answere
   due = λ t.
       let listed = read.spelled t in (
         audited lists pairs,
-        audit_due told i q lists listed.0 (audited lists pairs) old mid loaded t listed.1 listed.2,
+        audit_due told i q lists listed.0 (audited lists pairs) old mid loaded t listed.1 (ap (on_pairs lists) listed.2),
         answered,
         reads_two told Instance Pairs old mid new [] (audited lists pairs) start loaded.begun (loaded.content t) read.begun (read.content t) (inl refl),
       );
@@ -111,7 +113,7 @@ pairs_rejected told i q lists rejection answer old mid new start loaded read ans
   due = λ t.
       let listed = read.due t in (
         rejected rejection,
-        audit_due told i q lists listed.0 (rejected rejection) old mid loaded t listed.1 listed.2,
+        audit_due told i q lists listed.0 (rejected rejection) old mid loaded t listed.1 (ap (on_pairs lists) listed.2),
         answered,
         reads_two told Instance Pairs old mid new (new.content.rest Pairs) (rejected rejection) start loaded.begun (loaded.content t) read.begun (read.content t)
             (passed_as rejection limit.PairsBytes (new.content.rest Pairs) (read.out t)),

@@ -14,21 +14,21 @@ use Rattle.opb_text.specs.Sending.{SentFront}
 use Rattle.opb_text.specs.Spelling.{model_text}
 use Rattle.proof_lines.specs.declared.line.Claim.{Claim}
 use Rattle.hrt_solve.specs.Writing.{SentBoth, SentFrontBehind, StopsWriting}
+use Rattle.hrt_inputs.specs.declared.limit.Limit.TheVariants as limit
+use Rattle.hrt_inputs.specs.Inputs.{BeginsAtMost}
+use Rattle.hrt_inputs.specs.Loading.{IsLoaded}
+use Rattle.hrt_inputs.specs.Formulas.{IsFormulaRead}
+use Rattle.hrt_inputs.specs.Taken.{IsTakenAs, formula_in}
 use Rattle.hrt_cli.specs.declared.answer.Answer.{Answer}
-use Rattle.hrt_cli.specs.declared.limit.Limit.TheVariants as limit
 use Rattle.hrt_cli.specs.declared.stop.Ended.{Ended}
 use Rattle.hrt_cli.specs.declared.stop.Ended.TheVariants as ended
-use Rattle.hrt_cli.specs.Inputs.{BeginsAtMost}
-use Rattle.hrt_cli.specs.Loading.{IsLoaded}
 use Rattle.hrt_cli.specs.Outputs.{output}
 use Rattle.hrt_cli.specs.Ports.{BeginsWriting, IsInput, IsModel, IsModelOrProof, IsOutput, ReadsInputs, WritesOutputs}
-use Rattle.hrt_cli.specs.Proofs.{IsFormulaRead}
 use Rattle.hrt_cli.specs.Requests.{Request, audit, bound, check, model, quick, solve, verify}
-use Rattle.hrt_solve.specs.Writing.{SentWhole}
-use Rattle.hrt_cli.specs.Verdicts.{IsTakenAs, formula_in}
 use Rattle.hrt_cli.specs.Writing.{EndsWriting, SavesInPart, SavesProof, WritesAll, WritesInPart}
 use Rattle.hrt_cli.proofs.Runs.{put_elsewhere, reads_nothing, writes_report}
 use Rattle.hrt_cli.proofs.WrittenOutputs.{is_taken}
+use Rattle.hrt_solve.specs.Writing.{SentWhole}
 
 -- ---- a port that one step put in another state
 

@@ -1,26 +1,25 @@
 -- What the end of a run says of the code that it answers.
-use Rattle.std.proofs.Common.{◌≡◌, ◌⊎◌, ℕ, zero, suc, Bool, true, false, ◌==◌, ◌||◌, nat_lt, bytes_eq, List, [], ◌∷◌, take, Option, Some, None, Result, Ok, Err, length, refl, sym, ◌∙◌, ap, inl, inr, option_map, cond, subst}
+use Rattle.std.proofs.Common.{◌≡◌, ◌⊎◌, ℕ, zero, suc, Bool, true, false, ◌==◌, ◌||◌, bytes_eq, List, [], ◌∷◌, take, Option, Some, None, Result, Ok, Err, length, refl, sym, ◌∙◌, ap, inl, inr, option_map, cond, subst}
 use Rattle.hrt_base.specs.declared.port.Port.{Port}
 use Rattle.hrt_base.specs.declared.port.Port.TheVariants.{Report}
 use Rattle.hrt_base.specs.declared.host.Begun.TheVariants.{Writing}
 use Rattle.hrt_base.specs.Calls.{Rose}
 use Rattle.hrt_base.specs.World.{World, store}
 use Rattle.promotion_heuristic.specs.Promotion.{promotion}
-use Rattle.rank_tables.specs.Instance.{Lists, pair_count}
-use Rattle.rank_tables.specs.Terms.{model_terms}
-use Rattle.hrt_text.specs.Text.{rows}
-use Rattle.hrt_reader.specs.Refusal.{Refusal, Spells, refusal, lists_of_rows}
-use Rattle.hrt_cli.specs.declared.limit.Limit.TheVariants.{Residents, Hospitals, Pairs, TriedPairs, Terms, InstanceBytes}
+use Rattle.rank_tables.specs.Instance.{Lists}
+use Rattle.hrt_reader.specs.Refusal.{Spells}
+use Rattle.hrt_inputs.specs.declared.limit.Limit.TheVariants.{TriedPairs}
+use Rattle.hrt_inputs.specs.Rejections.{Rejection, refused, exceeded, pairs_refused, model_refused, proof_refused, truncated}
+use Rattle.hrt_inputs.specs.Taken.{lists_in, within}
 use Rattle.hrt_cli.specs.declared.status.Status.{Status}
 use Rattle.hrt_cli.specs.declared.status.Status.TheVariants.{Done, Misused, InstanceRefused, ReadFault, WriteFault, NoMemory, LimitExceeded, ProofRefused, AuditNo, Bounded, PairsRefused}
-use Rattle.hrt_cli.specs.Limits.{most}
 use Rattle.hrt_cli.specs.Answers.{IsCutShort, LeavesFronts, SendsDue, SendsNothing}
 use Rattle.hrt_cli.specs.Outputs.{Output, SendsAll, files_after, is_output_name, model_outputs, outputs_of, proof_outputs}
 use Rattle.hrt_cli.specs.Reports.{IsReport}
 use Rattle.hrt_cli.specs.Requests.{Request, solve, audit, model, verify, check, bound, quick}
 use Rattle.hrt_cli.specs.Runs.{EndsAs, IsDecided, IsDue, IsReported, Reported, KeepsFiles, KeepsOthers, PrintsBest, has_report, is_code, keeps_files}
-use Rattle.hrt_cli.specs.Statuses.{code_of}
-use Rattle.hrt_cli.specs.Verdicts.{ComesTo, Files, Rejection, Verdict, misused, refused, exceeded, pairs_refused, model_refused, proof_refused, truncated, rejected, solved, audited, modeled, verified, checked, bounded, matched, due as due_for, lists_in, of_few_terms, solve_verdict, status_of, unless_refused, within}
+use Rattle.hrt_cli.specs.Statuses.{code_of, status_of}
+use Rattle.hrt_cli.specs.Verdicts.{ComesTo, Files, Verdict, misused, rejected, solved, audited, modeled, verified, checked, bounded, matched, due as due_for, solve_verdict}
 use Rattle.hrt_cli.proofs.NamedOutputs.{not_stored}
 use Rattle.hrt_cli.proofs.OneVerdict.{one_told, some_is}
 
@@ -340,62 +339,13 @@ known Bounded = refl
 
 -- ---- the printed pairs
 
-abbrev taken_as : Lists → Result Lists Rejection
-taken_as lists = Ok lists
+due_ok : (r : Result Lists Rejection) (found : Lists) → due_for r solved ≡ solved found → r ≡ Ok found
+due_ok (Err rejection) found e = absurd (cc)
+due_ok (Ok lists) found e = cc
 
-ok_is : (a b : Lists) → taken_as a ≡ taken_as b → a ≡ b
-ok_is a b e = cc
-
-none_refused : (r : Option Refusal) (lists found : Lists) → unless_refused r lists ≡ Ok found → r ≡ None
-none_refused None lists found e = refl
-none_refused (Some r) lists found e = absurd (by (r.kind == 11) (r.kind == 12) e)
-  where
-    by : (a b : Bool) → cond {A = Result Lists Rejection} a (Err (exceeded Residents)) (cond b (Err (exceeded Hospitals)) (Err (refused r))) ≡ Ok found → ⊥
-    by true b h = absurd (cc)
-    by false true h = absurd (cc)
-    by false false h = absurd (cc)
-
--- lists that are taken are those that the text spells
-pub spelled : (bytes : List ℕ) (found : Lists) → lists_in bytes ≡ Ok found → Spells bytes found
-spelled bytes found e = by (nat_lt (most InstanceBytes) (length bytes)) e
-  where
-    unrefused : unless_refused (refusal (rows bytes)) (lists_of_rows (rows bytes)) ≡ Ok found → Spells bytes found
-    unrefused h =
-        let none = none_refused (refusal (rows bytes)) (lists_of_rows (rows bytes)) found h in
-        record { accepted = none; says = ok_is (lists_of_rows (rows bytes)) found (ap (λ (r : Option Refusal). unless_refused r (lists_of_rows (rows bytes))) (sym none) ∙ h) }
-
-    by : (b : Bool) → cond {A = Result Lists Rejection} b (Err (exceeded InstanceBytes)) (unless_refused (refusal (rows bytes)) (lists_of_rows (rows bytes))) ≡ Ok found → Spells bytes found
-    by true h = absurd (cc)
-    by false h = unrefused h
-
-of_within : (r : Result Lists Rejection) (lists : Lists) → within Pairs r ≡ Ok lists → r ≡ Ok lists
-of_within (Err rejection) lists e = absurd (cc)
-of_within (Ok found) lists e = by (nat_lt (most Pairs) (pair_count found)) e
-  where
-    by : (b : Bool) → cond {A = Result Lists Rejection} b (Err (exceeded Pairs)) (Ok found) ≡ taken_as lists → taken_as found ≡ taken_as lists
-    by true h = absurd (cc)
-    by false h = h
-
-of_terms : (r : Result Lists Rejection) (lists : Lists) → of_few_terms r ≡ Ok lists → r ≡ Ok lists
-of_terms (Err rejection) lists e = absurd (cc)
-of_terms (Ok found) lists e = by (nat_lt (most Terms) (model_terms found)) e
-  where
-    by : (b : Bool) → cond {A = Result Lists Rejection} b (Err (exceeded Terms)) (Ok found) ≡ taken_as lists → taken_as found ≡ taken_as lists
-    by true h = absurd (cc)
-    by false h = h
-
--- lists of few pairs and few terms, too
-pub taken_spelled : (bytes : List ℕ) (lists : Lists) → of_few_terms (within Pairs (lists_in bytes)) ≡ Ok lists → Spells bytes lists
-taken_spelled bytes lists e = spelled bytes lists (of_within (lists_in bytes) lists (of_terms (within Pairs (lists_in bytes)) lists e))
-
--- and a verdict of best pairs comes of lists that are taken
+-- a verdict of best pairs comes of lists that are taken
 taken : (r : Result Lists Rejection) (found : Lists) → due_for (within TriedPairs r) solved ≡ solved found → r ≡ Ok found
-taken (Err rejection) found e = absurd (cc)
-taken (Ok lists) found e = by (nat_lt (most TriedPairs) (pair_count lists)) e
-  where
-    by : (b : Bool) → due_for (cond {A = Result Lists Rejection} b (Err (exceeded TriedPairs)) (Ok lists)) solved ≡ solved found → taken_as lists ≡ taken_as found
-    by true h = absurd (cc)
-    by false h = cc
+taken r found e = of_within TriedPairs r found (due_ok (within TriedPairs r) found e)
 
 -- the verdict on the bytes of a file
 pub record IsSpelledIn (file : Option (List ℕ)) (lists : Lists) : Type 0 where

@@ -1,5 +1,5 @@
 -- What the commands that check a proof come to.
-use Rattle.std.proofs.Common.{◌≡◌, ◌⊎◌, ℕ, List, [], Option, Some, Result, Ok, Err, IfOk, IfSome, IsTrue, refl, sym, ◌∙◌, ap, subst, inl, inr}
+use Rattle.std.proofs.Common.{◌≡◌, ℕ, List, [], Option, Some, Result, Ok, Err, IfOk, IfSome, IsTrue, refl, sym, ◌∙◌, ap, subst, inl, inr}
 use Rattle.hrt_base.specs.declared.port.Port.{Port}
 use Rattle.hrt_base.specs.declared.port.Port.TheVariants.{Instance, Model, Proof}
 use Rattle.hrt_base.specs.Calls.{AtStart}
@@ -10,20 +10,24 @@ use Rattle.stability_model.specs.Model.{formula}
 use Rattle.proof_lines.specs.declared.line.Claim.{Claim}
 use Rattle.proof_rules.specs.Texts as text
 use Rattle.proof_checker.specs.Answers.{refusal_verdict}
+use Rattle.hrt_inputs.specs.declared.limit.Limit.{Limit}
+use Rattle.hrt_inputs.specs.declared.limit.Limit.TheVariants as limit
+use Rattle.hrt_inputs.specs.declared.stop.Stop.{Stop}
+use Rattle.hrt_inputs.specs.declared.stop.Stop.TheVariants.{Refused, Exceeded, PairsRefused, ModelRefused, ProofRefused, ReadFault, NoMemory}
+use Rattle.hrt_inputs.specs.Inputs.{IsTooLong}
+use Rattle.hrt_inputs.specs.Limits.{most}
+use Rattle.hrt_inputs.specs.Loading.{IsLoaded, IsRejected, StopsLoading}
+use Rattle.hrt_inputs.specs.Formulas.{IsFormulaRead}
+use Rattle.hrt_inputs.specs.Proofs.{IsProofJudged, StopsProof}
+use Rattle.hrt_inputs.specs.Rejections.{Rejection, exceeded}
+use Rattle.hrt_inputs.specs.Taken.{formula_in, formula_of_instance, model_of}
 use Rattle.hrt_cli.specs.declared.answer.Answer.{Answer}
-use Rattle.hrt_cli.specs.declared.limit.Limit.{Limit}
-use Rattle.hrt_cli.specs.declared.limit.Limit.TheVariants as limit
 use Rattle.hrt_cli.specs.declared.status.Status.{Status}
 use Rattle.hrt_cli.specs.declared.stop.Ended.{Ended}
-use Rattle.hrt_cli.specs.declared.stop.Stop.{Stop}
-use Rattle.hrt_cli.specs.declared.stop.Stop.TheVariants.{Refused, Exceeded, PairsRefused, ModelRefused, ProofRefused, ReadFault, NoMemory}
 use Rattle.hrt_cli.specs.Answers.{Explains, IsAnswer, IsAnswered, is_on_files}
-use Rattle.hrt_cli.specs.Inputs.{IsTooLong}
-use Rattle.hrt_cli.specs.Limits.{most}
-use Rattle.hrt_cli.specs.Loading.{IsLoaded, IsRejected, StopsLoading}
-use Rattle.hrt_cli.specs.Proofs.{IsFormulaRead, IsProofJudged, StopsProof}
 use Rattle.hrt_cli.specs.Requests.{Request, check, verify}
-use Rattle.hrt_cli.specs.Verdicts.{ComesTo, Files, OnFiles, OnFormula, ProofComesTo, Rejection, Verdict, checked, exceeded, formula_in, formula_of_instance, model_of, on_verdict, rejected, status_of, verified}
+use Rattle.hrt_cli.specs.Verdicts.{ComesTo, Files, OnFiles, OnFormula, ProofComesTo, Verdict, checked, on_verdict, rejected, verified}
+use Rattle.hrt_cli.specs.Statuses.{status_of}
 use Rattle.hrt_cli.proofs.ReadOut.{passed_as, reads_one, reads_two, rejection_on_files, then_only_read}
 
 -- ---- a command by its two files

@@ -10,10 +10,13 @@ use Rattle.pb_rows.specs.Formula.{Formula}
 use Rattle.proof_lines.specs.declared.line.Claim.{Claim}
 use Rattle.proof_rules.proofs.Verdicts.{one_verdict}
 use Rattle.hrt_solve.specs.Gauged.{AreNumbersOf, bound_claim}
+use Rattle.hrt_inputs.specs.Rejections.{Rejection}
+use Rattle.hrt_inputs.specs.Taken.{formula_in, formula_of_instance, lists_in, of_few_terms, within}
+use Rattle.hrt_inputs.specs.declared.limit.Limit.TheVariants as limit
 use Rattle.hrt_cli.specs.Reports.{IsReport}
 use Rattle.hrt_cli.specs.Requests.{Request, audit, bound, check, model, quick, solve, verify}
-use Rattle.hrt_cli.specs.Verdicts.{BoundDue, ComesTo, Files, IsJudgedAs, MatchDue, OnFiles, OnFormula, OnInstance, OnLists, ProofComesTo, ProofDue, Rejection, Verdict, bounded, checked, first_claim, formula_in, formula_of_instance, lists_in, matched, of_few_terms, on_verdict, status_of, verified, within}
-use Rattle.hrt_cli.specs.declared.limit.Limit.TheVariants as limit
+use Rattle.hrt_cli.specs.Verdicts.{BoundDue, ComesTo, Files, IsJudgedAs, MatchDue, OnFiles, OnFormula, OnInstance, OnLists, ProofComesTo, ProofDue, Verdict, bounded, checked, first_claim, matched, on_verdict, verified}
+use Rattle.hrt_cli.specs.Statuses.{status_of}
 
 pub some_is : {A : Type 0} (a b : A) → Some a ≡ Some b → a ≡ b
 some_is a b e = cc

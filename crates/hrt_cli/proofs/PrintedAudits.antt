@@ -1,22 +1,23 @@
 -- What a run that audits pairs prints.
-use Rattle.std.proofs.Common.{◌≡◌, ◌⊎◌, ◌==◌, ℕ, Bool, true, false, cond, nat_lt, List, length, Option, Some, None, Result, Ok, Err, refl, sym, ◌∙◌, ap, subst, inl, inr}
+use Rattle.std.proofs.Common.{◌≡◌, ◌⊎◌, ◌==◌, ℕ, Bool, true, false, cond, List, Option, Some, None, Result, Ok, Err, refl, sym, ◌∙◌, ap, subst, inl, inr}
 use Rattle.hrt_base.specs.declared.port.Port.TheVariants.{Report}
 use Rattle.hrt_base.specs.World.{World}
 use Rattle.rank_tables.specs.Instance.{Lists}
 use Rattle.rank_tables.specs.Stability.{is_weakly_stable}
-use Rattle.hrt_text.specs.Text.{rows}
-use Rattle.hrt_reader.specs.PairsText.{pairs_of_rows, pairs_refusal}
-use Rattle.hrt_reader.specs.Refusal.{Refusal}
-use Rattle.hrt_cli.specs.declared.limit.Limit.TheVariants.{Pairs, PairsBytes}
+use Rattle.hrt_reader.specs.PairsText.{SpellsPairs}
+use Rattle.hrt_inputs.specs.declared.limit.Limit.TheVariants.{Pairs}
+use Rattle.hrt_inputs.specs.Rejections.{Rejection, exceeded, model_refused, pairs_refused, proof_refused, refused, truncated}
+use Rattle.hrt_inputs.specs.Taken.{lists_in, of_few_terms, pairs_in, within}
+use Rattle.hrt_inputs.proofs.ReadPairs.{pairs_spelled}
+use Rattle.hrt_inputs.proofs.ReadInstances.{taken_spelled}
 use Rattle.hrt_cli.specs.declared.status.Status.{Status}
 use Rattle.hrt_cli.specs.declared.status.Status.TheVariants.{Done, AuditNo}
-use Rattle.hrt_cli.specs.Limits.{most}
 use Rattle.hrt_cli.specs.Reports.{IsReport}
 use Rattle.hrt_cli.specs.Requests.{Request, audit}
 use Rattle.hrt_cli.specs.Runs.{EndsAs, PrintsAudit, has_report}
-use Rattle.hrt_cli.specs.Statuses.{code_of}
-use Rattle.hrt_cli.specs.Verdicts.{ComesTo, Rejection, Verdict, audit_verdict, audited, bounded, checked, exceeded, lists_in, matched, misused, model_refused, modeled, of_few_terms, on_file, on_lists, pairs_refused, proof_refused, refused, rejected, solved, status_of, truncated, unless_pairs_refused, verified, within}
-use Rattle.hrt_cli.proofs.Codes.{rejected_not_done, reported, taken_spelled}
+use Rattle.hrt_cli.specs.Statuses.{code_of, status_of}
+use Rattle.hrt_cli.specs.Verdicts.{ComesTo, Verdict, audit_verdict, audited, bounded, checked, matched, misused, modeled, on_file, on_lists, on_pairs, rejected, solved, verified}
+use Rattle.hrt_cli.proofs.Codes.{rejected_not_done, reported}
 use Rattle.hrt_cli.proofs.OneVerdict.{some_is}
 
 -- ---- which verdicts the command can come to
@@ -32,21 +33,14 @@ IsOnAudit (checked claim) = ⊥
 IsOnAudit (bounded lists deleted top text) = ⊥
 IsOnAudit (matched lists deleted top text) = ⊥
 
-unless_on : (o : Option Refusal) (lists : Lists) (pairs : List ℕ) → IsOnAudit (unless_pairs_refused o lists pairs)
-unless_on None lists pairs = tt
-unless_on (Some r) lists pairs = tt
-
-audit_on : (lists : Lists) (bytes : List ℕ) → IsOnAudit (audit_verdict lists bytes)
-audit_on lists bytes = by (nat_lt (most PairsBytes) (length bytes))
-  where
-    by : (b : Bool) → IsOnAudit (cond {A = Verdict} b (rejected (exceeded PairsBytes)) (unless_pairs_refused (pairs_refusal lists (rows bytes)) lists (pairs_of_rows lists (rows bytes))))
-    by true = tt
-    by false = unless_on (pairs_refusal lists (rows bytes)) lists (pairs_of_rows lists (rows bytes))
+pairs_on : (lists : Lists) (r : Result (List ℕ) Rejection) → IsOnAudit (on_pairs lists r)
+pairs_on lists (Err rejection) = tt
+pairs_on lists (Ok pairs) = tt
 
 lists_on : (r : Result Lists Rejection) (pairs : Option (List ℕ)) (verdict : Verdict) → on_lists r pairs ≡ Some verdict → IsOnAudit verdict
 lists_on (Err rejection) pairs verdict e = subst IsOnAudit (some_is (rejected rejection) verdict e) tt
 lists_on (Ok lists) None verdict e = absurd (cc)
-lists_on (Ok lists) (Some bytes) verdict e = subst IsOnAudit (some_is (audit_verdict lists bytes) verdict e) (audit_on lists bytes)
+lists_on (Ok lists) (Some bytes) verdict e = subst IsOnAudit (some_is (audit_verdict lists bytes) verdict e) (pairs_on lists (pairs_in lists bytes))
 
 on_audit : (file pairs : Option (List ℕ)) (verdict : Verdict) → on_file file pairs ≡ Some verdict → IsOnAudit verdict
 on_audit None pairs verdict e = absurd (cc)
@@ -54,44 +48,32 @@ on_audit (Some bytes) pairs verdict e = lists_on (of_few_terms (within Pairs (li
 
 -- ---- what a verdict on pairs says of the files
 
--- the pairs of these bytes are taken
-record AreListed (lists : Lists) (bytes pairs : List ℕ) : Type 0 where
-  taken : pairs_refusal lists (rows bytes) ≡ None
-  are : pairs ≡ pairs_of_rows lists (rows bytes)
-
-record IsPairsVerdict (found lists : Lists) (bytes pairs : List ℕ) : Type 0 where
+-- pairs are listed of lists that are taken
+record IsListed (found lists : Lists) (r : Result (List ℕ) Rejection) (pairs : List ℕ) : Type 0 where
   same : found ≡ lists
-  listed : AreListed found bytes pairs
+  taken : r ≡ Ok pairs
 
-pairs_said : (found lists : Lists) (bytes pairs : List ℕ) → audit_verdict found bytes ≡ audited lists pairs → IsPairsVerdict found lists bytes pairs
-pairs_said found lists bytes pairs e = by (nat_lt (most PairsBytes) (length bytes)) e
-  where
-    unrefused : (o : Option Refusal) → pairs_refusal found (rows bytes) ≡ o → unless_pairs_refused o found (pairs_of_rows found (rows bytes)) ≡ audited lists pairs → IsPairsVerdict found lists bytes pairs
-    unrefused None is h = record { same = cc; listed = record { taken = is; are = cc } }
-    unrefused (Some r) is h = absurd (cc)
-
-    by : (b : Bool) → cond {A = Verdict} b (rejected (exceeded PairsBytes)) (unless_pairs_refused (pairs_refusal found (rows bytes)) found (pairs_of_rows found (rows bytes))) ≡ audited lists pairs
-        → IsPairsVerdict found lists bytes pairs
-    by true h = absurd (cc)
-    by false h = unrefused (pairs_refusal found (rows bytes)) refl h
+listed_of : (found lists : Lists) (r : Result (List ℕ) Rejection) (pairs : List ℕ) → on_pairs found r ≡ audited lists pairs → IsListed found lists r pairs
+listed_of found lists (Err rejection) pairs e = absurd (cc)
+listed_of found lists (Ok listed) pairs e = record { same = cc; taken = cc }
 
 -- the lists are taken, and the pairs of these bytes
 record AreTaken (r : Result Lists Rejection) (file : Option (List ℕ)) (lists : Lists) (pairs : List ℕ) : Type 0 where
   is : r ≡ Ok lists
   bytes : List ℕ
   is_file : file ≡ Some bytes
-  listed : AreListed lists bytes pairs
+  listed : SpellsPairs lists bytes pairs
 
 lists_said : (r : Result Lists Rejection) (file : Option (List ℕ)) (lists : Lists) (pairs : List ℕ) → on_lists r file ≡ Some (audited lists pairs) → AreTaken r file lists pairs
 lists_said (Err rejection) file lists pairs e = absurd (let same : rejected rejection ≡ audited lists pairs = some_is (rejected rejection) (audited lists pairs) e in cc)
 lists_said (Ok found) None lists pairs e = absurd (cc)
 lists_said (Ok found) (Some bytes) lists pairs e =
-    let said = pairs_said found lists bytes pairs (some_is (audit_verdict found bytes) (audited lists pairs) e) in
+    let said = listed_of found lists (pairs_in found bytes) pairs (some_is (audit_verdict found bytes) (audited lists pairs) e) in
     record {
       is = ap (λ (l : Lists). Ok l) said.same;
       bytes = bytes;
       is_file = refl;
-      listed = subst (λ (l : Lists). AreListed l bytes pairs) said.same said.listed;
+      listed = subst (λ (l : Lists). SpellsPairs l bytes pairs) said.same (pairs_spelled found bytes pairs said.taken);
     }
 
 -- ---- the report
@@ -124,9 +106,9 @@ said_of_file i q lists pairs old new (Some bytes) is e report =
       spelled = taken_spelled bytes lists said.is;
       pairs_bytes = said.bytes;
       pairs_file = said.is_file;
-      taken = said.listed.taken;
+      taken = said.listed.accepted;
       listed = pairs;
-      listed_are = said.listed.are;
+      listed_are = sym said.listed.says;
       stability = refl;
       report = report;
     }

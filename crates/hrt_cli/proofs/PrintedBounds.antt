@@ -17,16 +17,19 @@ use Rattle.proof_lines.specs.declared.line.Claim.{Claim}
 use Rattle.proof_rules.proofs.Matchings.{verified_bounds}
 use Rattle.hrt_solve.specs.Gauged.{IsMost, bound_claim, value_of}
 use Rattle.hrt_solve.specs.Writing.{IsProof}
-use Rattle.hrt_cli.specs.declared.limit.Limit.TheVariants as limit
+use Rattle.hrt_inputs.specs.declared.limit.Limit.TheVariants as limit
+use Rattle.hrt_inputs.specs.Taken.{IsTaken, lists_in, of_few_terms, within}
+use Rattle.hrt_inputs.specs.Rejections.{Rejection, exceeded, model_refused, pairs_refused, proof_refused, refused, truncated}
+use Rattle.hrt_inputs.proofs.ReadInstances.{taken_spelled}
 use Rattle.hrt_cli.specs.declared.status.Status.{Status}
 use Rattle.hrt_cli.specs.declared.status.Status.TheVariants.{Done, Bounded}
 use Rattle.hrt_cli.specs.Outputs.{SendsAll, both, outputs_of}
 use Rattle.hrt_cli.specs.Reports.{IsReport, count_line, last_line, line}
 use Rattle.hrt_cli.specs.Requests.{Request, audit, bound, check, model, quick, request_of, solve, verify}
 use Rattle.hrt_cli.specs.Runs.{EndsAs, Finishes, IsReported, PrintsBound, PrintsMatching, PrintsMet, PrintsOpen, WritesProofOf, has_report}
-use Rattle.hrt_cli.specs.Statuses.{code_of}
-use Rattle.hrt_cli.specs.Verdicts.{BoundDue, ComesTo, IsTaken, MatchDue, OnInstance, OnLists, Rejection, Verdict, exceeded, first_claim, lists_in, model_refused, of_few_terms, pairs_refused, proof_refused, refused, rejected, status_of, truncated, within}
-use Rattle.hrt_cli.proofs.Codes.{rejected_not_done, reported, reported_or, taken_spelled, zero_has_report}
+use Rattle.hrt_cli.specs.Statuses.{code_of, status_of}
+use Rattle.hrt_cli.specs.Verdicts.{BoundDue, ComesTo, MatchDue, OnInstance, OnLists, Verdict, first_claim, rejected}
+use Rattle.hrt_cli.proofs.Codes.{rejected_not_done, reported, reported_or, zero_has_report}
 use Rattle.hrt_cli.proofs.NamedOutputs.{AreApart, AreNamed, not_stored, outputs_named, stored}
 use Rattle.hrt_cli.proofs.OneVerdict.{some_is}
 

@@ -17,15 +17,18 @@ use Rattle.proof_rules.specs.Texts as text
 use Rattle.proof_rules.specs.Texts.{IsValidText}
 use Rattle.proof_rules.proofs.Matchings.{all_rise, verified_bounds}
 use Rattle.proof_rules.proofs.Verdicts.{texts_sound}
-use Rattle.hrt_cli.specs.declared.limit.Limit.TheVariants.{Pairs}
+use Rattle.hrt_inputs.specs.declared.limit.Limit.TheVariants.{Pairs}
+use Rattle.hrt_inputs.specs.Rejections.{Rejection, proof_refused, truncated}
+use Rattle.hrt_inputs.specs.Taken.{formula_in, formula_of_instance, lists_in, model_of, of_few_terms, within}
+use Rattle.hrt_inputs.proofs.ReadInstances.{taken_spelled}
+use Rattle.hrt_inputs.proofs.ReadModels.{model_spelled}
 use Rattle.hrt_cli.specs.declared.status.Status.{Status}
 use Rattle.hrt_cli.specs.Reports.{IsReport, sizes_report, verify_report}
 use Rattle.hrt_cli.specs.Requests.{Request, check, verify}
 use Rattle.hrt_cli.specs.Runs.{EndsAs, PrintsClaim, PrintsSizes}
-use Rattle.hrt_cli.specs.Statuses.{code_of}
-use Rattle.hrt_cli.specs.Verdicts.{ComesTo, OnFormula, ProofComesTo, Rejection, Verdict, checked, formula_in, formula_of_instance, lists_in, model_of, of_few_terms, on_verdict, proof_refused, rejected, status_of, truncated, verified, within}
-use Rattle.hrt_cli.proofs.Codes.{rejected_not_done, reported, taken_spelled, zero_has_report}
-use Rattle.hrt_cli.proofs.ReadModels.{model_spelled}
+use Rattle.hrt_cli.specs.Statuses.{code_of, status_of}
+use Rattle.hrt_cli.specs.Verdicts.{ComesTo, OnFormula, ProofComesTo, Verdict, checked, on_verdict, rejected, verified}
+use Rattle.hrt_cli.proofs.Codes.{rejected_not_done, reported, zero_has_report}
 
 -- ---- a proof that is accepted
 

@@ -13,17 +13,20 @@ use Rattle.promotion_heuristic.specs.Promotion.{promotion}
 use Rattle.hrt_solve.specs.declared.ends.SolveEnd.{SolveEnd}
 use Rattle.hrt_solve.specs.Gauged.{AreNumbersOf, bound_claim}
 use Rattle.hrt_solve.specs.Writing.{IsBoundText, IsProof, IsQuickEnd, IsQuickText}
+use Rattle.hrt_inputs.specs.declared.limit.Limit.TheVariants as limit
+use Rattle.hrt_inputs.specs.Loading.{IsLoaded}
+use Rattle.hrt_inputs.specs.Taken.{IsTaken, lists_in, of_few_terms, within}
+use Rattle.hrt_inputs.specs.Rejections.{Rejection}
 use Rattle.hrt_cli.specs.declared.answer.Answer.{Answer}
-use Rattle.hrt_cli.specs.declared.limit.Limit.TheVariants as limit
 use Rattle.hrt_cli.specs.declared.status.Status.TheVariants as status
 use Rattle.hrt_cli.specs.declared.stop.Ended.{Ended}
 use Rattle.hrt_cli.specs.declared.stop.Ended.TheVariants as ended
 use Rattle.hrt_cli.specs.Answers.{EndsEarly, HasOutputs, IsAnswer, IsWorked, LeavesFronts, is_on_files}
-use Rattle.hrt_cli.specs.Loading.{IsLoaded}
 use Rattle.hrt_cli.specs.Outputs.{Output, both, outputs_of}
 use Rattle.hrt_cli.specs.Reports.{count_line, end_lines, found_lines, last_line, line, pair_line}
 use Rattle.hrt_cli.specs.Requests.{Request, bound, quick}
-use Rattle.hrt_cli.specs.Verdicts.{BoundDue, ComesTo, Files, IsTaken, MatchDue, OnInstance, OnLists, ProofDue, Rejection, Verdict, bounded, first_claim, lists_in, matched, of_few_terms, rejected, status_of, within}
+use Rattle.hrt_cli.specs.Verdicts.{BoundDue, ComesTo, Files, MatchDue, OnInstance, OnLists, ProofDue, Verdict, bounded, first_claim, matched, rejected}
+use Rattle.hrt_cli.specs.Statuses.{status_of}
 use Rattle.hrt_cli.specs.Writing.{SavesFronts, SavesInPart, SavesProof, WritesAll, WritesFronts, ended_by}
 use Rattle.hrt_cli.proofs.WrittenOutputs.{Writer, nothing_left, outputs_end, outputs_left, outputs_worked}
 

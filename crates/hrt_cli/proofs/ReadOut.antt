@@ -7,10 +7,12 @@ use Rattle.hrt_base.specs.declared.host.Begun.TheVariants.{Reading}
 use Rattle.hrt_base.specs.Calls.{AtStart}
 use Rattle.hrt_base.specs.World.{World, Content, put, port_no, with_rest}
 use Rattle.hrt_base.proofs.Pieces.{port_no-injective, put_here}
-use Rattle.hrt_cli.specs.declared.limit.Limit.{Limit}
+use Rattle.hrt_inputs.specs.declared.limit.Limit.{Limit}
+use Rattle.hrt_inputs.specs.Inputs.{OnlyRead, but_for_rest}
+use Rattle.hrt_inputs.specs.Rejections.{Rejection, exceeded, model_refused, pairs_refused, proof_refused, refused, truncated}
 use Rattle.hrt_cli.specs.Answers.{IsReadOut, PassedAt, is_on_files}
-use Rattle.hrt_cli.specs.Inputs.{OnlyRead, but_for_rest}
-use Rattle.hrt_cli.specs.Verdicts.{Rejection, Verdict, exceeded, model_refused, pairs_refused, proof_refused, refused, rejected, status_of, truncated}
+use Rattle.hrt_cli.specs.Verdicts.{Verdict, rejected}
+use Rattle.hrt_cli.specs.Statuses.{status_of}
 use Rattle.hrt_cli.proofs.Runs.{put_elsewhere, reads_nothing}
 
 -- one port alone was begun for reading, and was read to its end or past its limit

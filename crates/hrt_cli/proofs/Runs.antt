@@ -10,13 +10,13 @@ use Rattle.hrt_base.specs.Calls.{AtStart, Sent, SentPart}
 use Rattle.hrt_base.specs.World.{World, Content, port_no, put, store}
 use Rattle.hrt_base.proofs.Pieces.{port_no-injective, put_here}
 use Rattle.hrt_solve.specs.Writing.{SentWhole}
+use Rattle.hrt_inputs.specs.Inputs.{OnlyRead}
 use Rattle.hrt_cli.specs.declared.answer.Answer.{Answer}
 use Rattle.hrt_cli.specs.declared.status.Status.{Status}
 use Rattle.hrt_cli.specs.declared.status.Status.TheVariants.{Done, Misused, InstanceRefused, ReadFault, WriteFault, NoMemory, LimitExceeded, ProofRefused, AuditNo, Bounded, PairsRefused}
 use Rattle.hrt_cli.specs.declared.stop.Ended.{Ended}
 use Rattle.hrt_cli.specs.declared.stop.Ended.TheVariants as ended
 use Rattle.hrt_cli.specs.Answers.{CutShort, EndsEarly, GivesUp, IsAnswered, IsReadOut, IsWorked, LeavesFronts, PassedAt, SendsNothing, is_on_files}
-use Rattle.hrt_cli.specs.Inputs.{OnlyRead}
 use Rattle.hrt_cli.specs.Outputs.{Output, SendsAll, files_after, outputs_of, text_on}
 use Rattle.hrt_cli.specs.Reports.{IsReport, line}
 use Rattle.hrt_cli.specs.Requests.{Request}

@@ -1,21 +1,23 @@
 -- What the command that finds a largest weakly stable matching comes to.
-use Rattle.std.proofs.Common.{◌≡◌, ℕ, List, [], Some, Result, Ok, Err, IfOk, IsTrue, ap, ◌∙◌, sym, subst, option_map}
+use Rattle.std.proofs.Common.{◌≡◌, ℕ, List, Some, Result, Ok, Err, IfOk, IsTrue, ap, ◌∙◌, sym, subst, option_map}
 use Rattle.hrt_base.specs.declared.port.Port.TheVariants.{Instance}
 use Rattle.hrt_base.specs.Calls.{AtStart}
 use Rattle.hrt_base.specs.World.{World}
 use Rattle.rank_tables.specs.Instance.{Lists}
 use Rattle.hrt_reader.specs.Kinds.{number}
-use Rattle.hrt_cli.specs.declared.limit.Limit.TheVariants.{TriedPairs, InstanceBytes}
+use Rattle.hrt_inputs.specs.declared.limit.Limit.TheVariants.{TriedPairs, InstanceBytes}
+use Rattle.hrt_inputs.specs.declared.stop.Stop.{Stop}
+use Rattle.hrt_inputs.specs.declared.stop.Stop.TheVariants.{Refused, Exceeded, PairsRefused, ModelRefused, ProofRefused, ReadFault, NoMemory}
+use Rattle.hrt_inputs.specs.Loading.{IsRejected, StopsLoading}
+use Rattle.hrt_inputs.specs.Rejections.{Rejection, exceeded, refused}
+use Rattle.hrt_inputs.specs.Taken.{lists_in, of_few_terms, within}
+use Rattle.hrt_inputs.proofs.FewTerms.{tried_have_few}
 use Rattle.hrt_cli.specs.declared.answer.Answer.{Answer}
 use Rattle.hrt_cli.specs.declared.status.Status.{Status}
 use Rattle.hrt_cli.specs.declared.stop.Ended.{Ended}
-use Rattle.hrt_cli.specs.declared.stop.Stop.{Stop}
-use Rattle.hrt_cli.specs.declared.stop.Stop.TheVariants.{Refused, Exceeded, PairsRefused, ModelRefused, ProofRefused, ReadFault, NoMemory}
 use Rattle.hrt_cli.specs.Answers.{Explains, IsAnswer, IsAnswered, is_on_files}
-use Rattle.hrt_cli.specs.Loading.{IsRejected, StopsLoading}
 use Rattle.hrt_cli.specs.Requests.{solve}
-use Rattle.hrt_cli.specs.Verdicts.{ComesTo, Files, Rejection, exceeded, refused, rejected, solved, due, lists_in, of_few_terms, solve_verdict, within}
-use Rattle.hrt_cli.proofs.FewTerms.{tried_have_few}
+use Rattle.hrt_cli.specs.Verdicts.{ComesTo, Files, rejected, solved, due, solve_verdict}
 use Rattle.hrt_cli.proofs.ReadOut.{passed_as, reads_one, rejection_on_files}
 
 -- the verdict on lists, and on a refusal

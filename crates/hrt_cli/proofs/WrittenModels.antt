@@ -5,21 +5,24 @@ use Rattle.hrt_base.specs.Calls.{AtStart, Rose}
 use Rattle.hrt_base.specs.World.{World}
 use Rattle.rank_tables.specs.Instance.{Lists}
 use Rattle.opb_text.specs.Spelling.{model_text}
+use Rattle.hrt_inputs.specs.declared.limit.Limit.TheVariants as limit
+use Rattle.hrt_inputs.specs.Loading.{IsLoaded}
+use Rattle.hrt_inputs.specs.Rejections.{Rejection}
+use Rattle.hrt_inputs.specs.Taken.{lists_in, of_few_terms, within}
+use Rattle.hrt_inputs.proofs.ReadInstances.{taken_spelled}
 use Rattle.hrt_cli.specs.declared.answer.Answer.{Answer}
-use Rattle.hrt_cli.specs.declared.limit.Limit.TheVariants as limit
 use Rattle.hrt_cli.specs.declared.status.Status.{Status}
 use Rattle.hrt_cli.specs.declared.stop.Ended.{Ended}
 use Rattle.hrt_cli.specs.declared.stop.Ended.TheVariants as ended
 use Rattle.hrt_cli.specs.Answers.{EndsEarly, IsAnswer, IsWorked}
-use Rattle.hrt_cli.specs.Loading.{IsLoaded}
 use Rattle.hrt_cli.specs.Outputs.{SendsAll, output, outputs_of}
 use Rattle.hrt_cli.specs.Reports.{IsReport}
 use Rattle.hrt_cli.specs.Requests.{Request, is_file_name, model, request_of}
 use Rattle.hrt_cli.specs.Runs.{EndsAs, WritesModel}
-use Rattle.hrt_cli.specs.Statuses.{code_of}
-use Rattle.hrt_cli.specs.Verdicts.{ComesTo, Files, Rejection, Verdict, audited, bounded, checked, due, lists_in, matched, misused, model_verdict, modeled, of_few_terms, rejected, solved, status_of, verified, within}
+use Rattle.hrt_cli.specs.Statuses.{code_of, status_of}
+use Rattle.hrt_cli.specs.Verdicts.{ComesTo, Files, Verdict, audited, bounded, checked, due, matched, misused, model_verdict, modeled, rejected, solved, verified}
 use Rattle.hrt_cli.specs.Writing.{EndsWriting, WritesAll, WritesInPart}
-use Rattle.hrt_cli.proofs.Codes.{IsSpelledIn, rejected_not_done, reported, taken_spelled, zero_has_report}
+use Rattle.hrt_cli.proofs.Codes.{IsSpelledIn, rejected_not_done, reported, zero_has_report}
 use Rattle.hrt_cli.proofs.NamedOutputs.{AreNamed, outputs_named, stored}
 use Rattle.hrt_cli.proofs.OneVerdict.{some_is}
 use Rattle.hrt_cli.proofs.WrittenOutputs.{Writer, nothing_left, outputs_end, outputs_left, outputs_worked}

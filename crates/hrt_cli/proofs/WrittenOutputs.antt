@@ -7,19 +7,22 @@ use Rattle.hrt_base.specs.declared.host.Begun.TheVariants.{Reading}
 use Rattle.hrt_base.specs.Calls.{AtStart, Rose}
 use Rattle.hrt_base.specs.World.{World, Content}
 use Rattle.rank_tables.specs.Instance.{Lists}
+use Rattle.hrt_inputs.specs.declared.limit.Limit.TheVariants as limit
+use Rattle.hrt_inputs.specs.declared.stop.Stop.{Stop}
+use Rattle.hrt_inputs.specs.declared.stop.Stop.TheVariants.{Refused, Exceeded, PairsRefused, ModelRefused, ProofRefused, ReadFault, NoMemory}
+use Rattle.hrt_inputs.specs.Inputs.{OnlyRead}
+use Rattle.hrt_inputs.specs.Loading.{IsLoaded, IsRejected, StopsLoading}
+use Rattle.hrt_inputs.specs.Taken.{IsTaken, lists_in, of_few_terms, within}
+use Rattle.hrt_inputs.specs.Rejections.{Rejection, exceeded}
 use Rattle.hrt_cli.specs.declared.answer.Answer.{Answer}
-use Rattle.hrt_cli.specs.declared.limit.Limit.TheVariants as limit
 use Rattle.hrt_cli.specs.declared.status.Status.{Status}
-use Rattle.hrt_cli.specs.declared.stop.Stop.{Stop}
-use Rattle.hrt_cli.specs.declared.stop.Stop.TheVariants.{Refused, Exceeded, PairsRefused, ModelRefused, ProofRefused, ReadFault, NoMemory}
 use Rattle.hrt_cli.specs.declared.stop.Ended.{Ended}
 use Rattle.hrt_cli.specs.declared.stop.Ended.TheVariants as ended
 use Rattle.hrt_cli.specs.Answers.{EndsEarly, EndsFor, Explains, HasOutputs, IsAnswer, IsWorked, LeavesFronts, PassedAt, is_on_files}
-use Rattle.hrt_cli.specs.Inputs.{OnlyRead}
-use Rattle.hrt_cli.specs.Loading.{IsLoaded, IsRejected, StopsLoading}
 use Rattle.hrt_cli.specs.Outputs.{Output, files_after, outputs_of}
 use Rattle.hrt_cli.specs.Requests.{Request}
-use Rattle.hrt_cli.specs.Verdicts.{ComesTo, Files, IsTaken, Rejection, Verdict, exceeded, lists_in, misused, of_few_terms, rejected, status_of, within}
+use Rattle.hrt_cli.specs.Verdicts.{ComesTo, Files, Verdict, misused, rejected}
+use Rattle.hrt_cli.specs.Statuses.{status_of}
 use Rattle.hrt_cli.specs.Writing.{Writes, WritesAll, WritesFronts, WritesNothing}
 use Rattle.hrt_cli.proofs.ReadOut.{reads_one, rejection_on_files}
 use Rattle.hrt_cli.proofs.Runs.{file_before, leaves_nothing, name_before, nothing_due, read_ends, report_open, sent_before, writes_report}

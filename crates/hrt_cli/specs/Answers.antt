@@ -10,20 +10,23 @@ use Rattle.hrt_reader.specs.PairsAnswer.{pairs_number}
 use Rattle.proof_lines.specs.declared.line.Claim.{Claim}
 use Rattle.proof_checker.specs.declared.refusal.ProofRefusal.{ProofRefusal}
 use Rattle.proof_checker.specs.Answers.{refusal_verdict}
-use Rattle.hrt_cli.specs.declared.limit.Limit.TheVariants.{InstanceBytes, PairsBytes, ModelBytes, ProofBytes}
+use Rattle.hrt_inputs.specs.declared.limit.Limit.TheVariants.{InstanceBytes, PairsBytes, ModelBytes, ProofBytes}
+use Rattle.hrt_inputs.specs.declared.stop.Stop.{Stop}
+use Rattle.hrt_inputs.specs.declared.stop.Stop.TheVariants.{Refused, Exceeded, PairsRefused, ModelRefused, ProofRefused, ReadFault, NoMemory}
+use Rattle.hrt_inputs.specs.Inputs.{OnlyRead}
+use Rattle.hrt_inputs.specs.Loading.{FailedToRead}
+use Rattle.hrt_inputs.specs.Rejections.{refused, exceeded, pairs_refused, model_refused}
+use Rattle.hrt_inputs.specs.Taken.{IsTaken}
 use Rattle.hrt_cli.specs.declared.answer.Answer.{Answer}
 use Rattle.hrt_cli.specs.declared.status.Status.{Status}
 use Rattle.hrt_cli.specs.declared.status.Status.TheVariants as status
-use Rattle.hrt_cli.specs.declared.stop.Stop.{Stop}
-use Rattle.hrt_cli.specs.declared.stop.Stop.TheVariants.{Refused, Exceeded, PairsRefused, ModelRefused, ProofRefused, ReadFault, NoMemory}
 use Rattle.hrt_cli.specs.declared.stop.Ended.{Ended}
 use Rattle.hrt_cli.specs.declared.stop.Ended.TheVariants as ended
-use Rattle.hrt_cli.specs.Inputs.{OnlyRead}
-use Rattle.hrt_cli.specs.Loading.{FailedToRead}
 use Rattle.hrt_cli.specs.Outputs.{SendsAll, SendsFronts, outputs_of}
 use Rattle.hrt_cli.specs.Reports.{IsReport}
 use Rattle.hrt_cli.specs.Requests.{Request, solve, audit, model, verify, check, bound, quick}
-use Rattle.hrt_cli.specs.Verdicts.{Verdict, rejected, refused, exceeded, pairs_refused, model_refused, ComesTo, Files, IsTaken, on_verdict, status_of}
+use Rattle.hrt_cli.specs.Verdicts.{Verdict, rejected, ComesTo, Files, on_verdict}
+use Rattle.hrt_cli.specs.Statuses.{status_of}
 
 -- a status that tells a verdict on the files
 abbrev pub is_on_files : Status → Bool

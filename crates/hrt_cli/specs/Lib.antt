@@ -1,10 +1,6 @@
 pub mod Answers
-pub mod Inputs
-pub mod Limits
-pub mod Loading
 pub mod Outputs
 pub mod Ports
-pub mod Proofs
 pub mod Reports
 pub mod Requests
 pub mod Runs

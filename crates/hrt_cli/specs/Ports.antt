@@ -4,8 +4,9 @@ use Rattle.hrt_base.specs.declared.port.Port.{Port}
 use Rattle.hrt_base.specs.declared.port.Port.TheVariants.{Instance, Pairs, Model, Proof, Report}
 use Rattle.hrt_base.specs.declared.host.Begun.TheVariants.{Reading, Writing}
 use Rattle.hrt_base.specs.World.{World}
+use Rattle.hrt_inputs.specs.Taken.{IsTaken, IsTakenAs, formula_in}
 use Rattle.hrt_cli.specs.Requests.{Request, solve, audit, model, verify, check, bound, quick}
-use Rattle.hrt_cli.specs.Verdicts.{Files, IsTaken, IsTakenAs, formula_in}
+use Rattle.hrt_cli.specs.Verdicts.{Files}
 
 -- The command reads on this port: the first of its inputs, or the second one where the first is taken.
 abbrev pub IsInput : (told : Type 0) → Option Request → Files → Port → Type 0

@@ -20,11 +20,13 @@ use Rattle.proof_checker.specs.declared.refusal.ProofRefusal.{ProofRefusal}
 use Rattle.proof_checker.specs.Answers.{refusal_verdict}
 use Rattle.promotion_heuristic.specs.Promotion.{promotion}
 use Rattle.hrt_solve.specs.declared.ends.SolveEnd.{SolveEnd}
-use Rattle.hrt_cli.specs.declared.limit.Limit.{Limit}
-use Rattle.hrt_cli.specs.declared.stop.ModelKind.{ModelKind}
-use Rattle.hrt_cli.specs.declared.stop.ModelKind.TheVariants.{Syntax, TooBig}
-use Rattle.hrt_cli.specs.Limits.{most, name_of}
-use Rattle.hrt_cli.specs.Verdicts.{Verdict, misused, rejected, refused, exceeded, pairs_refused, model_refused, proof_refused, truncated, solved, audited, modeled, verified, checked, bounded, matched, on_verdict}
+use Rattle.hrt_inputs.specs.declared.limit.Limit.{Limit}
+use Rattle.hrt_inputs.specs.declared.limit.Limit.TheVariants.{Residents, Hospitals, Pairs, TriedPairs, Terms, InstanceBytes, PairsBytes, ModelBytes, Variables, Rows, ProofBytes}
+use Rattle.hrt_inputs.specs.declared.stop.ModelKind.{ModelKind}
+use Rattle.hrt_inputs.specs.declared.stop.ModelKind.TheVariants.{Syntax, TooBig}
+use Rattle.hrt_inputs.specs.Limits.{most}
+use Rattle.hrt_inputs.specs.Rejections.{refused, exceeded, pairs_refused, model_refused, proof_refused, truncated}
+use Rattle.hrt_cli.specs.Verdicts.{Verdict, misused, rejected, solved, audited, modeled, verified, checked, bounded, matched, on_verdict}
 
 abbrev pub line : List ℕ → List ℕ
 line text = text ++ 10 ∷ []
@@ -101,6 +103,20 @@ kind_word n =
 -- a number and what is there
 abbrev pub place_line : ℕ → List ℕ → List ℕ
 place_line number what = value_line (decimal number) what
+
+-- the word for a limit
+abbrev pub name_of : Limit → List ℕ
+name_of Residents = codes "residents"
+name_of Hospitals = codes "hospitals"
+name_of Pairs = codes "pairs"
+name_of TriedPairs = codes "pairs"
+name_of Terms = codes "terms"
+name_of InstanceBytes = codes "instance-bytes"
+name_of PairsBytes = codes "pairs-bytes"
+name_of ModelBytes = codes "model-bytes"
+name_of Variables = codes "variables"
+name_of Rows = codes "rows"
+name_of ProofBytes = codes "proof-bytes"
 
 abbrev pub limit_line : Limit → List ℕ
 limit_line limit = codes "limit " ++ count_line (name_of limit) (most limit)

@@ -6,8 +6,16 @@ use Rattle.hrt_base.specs.declared.port.Port.TheVariants.{Model, Proof, Report}
 use Rattle.hrt_base.specs.declared.host.Begun.TheVariants.{Writing}
 use Rattle.hrt_base.specs.Calls.{Rose}
 use Rattle.hrt_base.specs.World.{World, Content}
+use Rattle.hrt_inputs.specs.Taken.{IsTaken}
 use Rattle.hrt_cli.specs.declared.status.Status.{Status}
 use Rattle.hrt_cli.specs.declared.status.Status.TheVariants.{Done, Misused, InstanceRefused, ReadFault, WriteFault, NoMemory, LimitExceeded, ProofRefused, AuditNo, Bounded, PairsRefused}
+use Rattle.hrt_cli.specs.Answers.{CutShort, IsReadOut, LeavesFronts, SendsNothing}
+use Rattle.hrt_cli.specs.Outputs.{SendsAll, is_output_name, outputs_of}
+use Rattle.hrt_cli.specs.Reports.{IsReport, audit_report, bound_report, check_report, count_line, line, match_lines, model_report, sizes_report, solve_report}
+use Rattle.hrt_cli.specs.Requests as ask
+use Rattle.hrt_cli.specs.Requests.{Request}
+use Rattle.hrt_cli.specs.Statuses.{code_of, status_of}
+use Rattle.hrt_cli.specs.Verdicts.{Verdict, ComesTo}
 use Rattle.rank_tables.specs.Instance.{Lists}
 use Rattle.rank_tables.specs.Stability.{Best, is_weakly_stable}
 use Rattle.pb_rows.specs.Formula.{Formula}
@@ -22,13 +30,6 @@ use Rattle.hrt_reader.specs.Refusal.{Spells}
 use Rattle.stability_audit.specs.Verdict.{verdict_of as audit_of}
 use Rattle.opb_text.specs.Refusal.{Spells as SpellsFormula}
 use Rattle.opb_text.specs.Spelling.{model_text}
-use Rattle.hrt_cli.specs.Answers.{CutShort, IsReadOut, LeavesFronts, SendsNothing}
-use Rattle.hrt_cli.specs.Outputs.{SendsAll, is_output_name, outputs_of}
-use Rattle.hrt_cli.specs.Reports.{IsReport, audit_report, bound_report, check_report, count_line, line, match_lines, model_report, sizes_report, solve_report}
-use Rattle.hrt_cli.specs.Requests as ask
-use Rattle.hrt_cli.specs.Requests.{Request}
-use Rattle.hrt_cli.specs.Statuses.{code_of}
-use Rattle.hrt_cli.specs.Verdicts.{Verdict, ComesTo, IsTaken, status_of}
 
 -- the report of what the words and the files come to was sent whole
 pub record IsReported (request : Option Request) (status : Status) (old new : World) : Type 0 where

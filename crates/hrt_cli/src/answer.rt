@@ -3,11 +3,12 @@ ghost use Rattle.std.specs.Prelude.{◌≡◌, ◌++◌, codes, IfOk, IfErr};
 ghost use Rattle.hrt_reader.specs.Kinds.{number};
 ghost use Rattle.hrt_reader.specs.PairsAnswer.{pairs_number};
 ghost use Rattle.hrt_cli.specs.Answers.{EndsFor, Explains};
-ghost use Rattle.hrt_cli.specs.Reports.{kind_word, pairs_kind_word, limit_line, place_line};
+ghost use Rattle.hrt_cli.specs.Reports.{kind_word, pairs_kind_word, limit_line, name_of, place_line};
 
 use crate::refusals::{model_refusal_report, proof_refusal_report};
-use crate::{Ended, Limit, Report, Status, Stop};
+use crate::{Ended, Report, Status};
 use hrt_base::NoMemory;
+use hrt_inputs::{Limit, Stop};
 use hrt_reader::{PairsKind, ReadKind};
 use itoa::Buffer;
 use std::alloc::Global;
@@ -74,8 +75,26 @@ fn limit_report(alloc: Global, limit: Limit) -> Result<Report, NoMemory>
     let mut report = Report::new(alloc);
     let mut buffer = Buffer::new();
     report.push(b"limit ")?;
-    report.push_value(limit.name(), buffer.format(limit.most()))?;
+    report.push_value(limit_name(limit), buffer.format(limit.most()))?;
     Ok(report)
+}
+
+// The word for a limit.
+fn limit_name(limit: Limit) -> &'static str
+    ensures { result.now ≡ name_of limit }
+{
+    match limit {
+        Limit::Residents => "residents",
+        Limit::Hospitals => "hospitals",
+        Limit::Pairs | Limit::TriedPairs => "pairs",
+        Limit::Terms => "terms",
+        Limit::InstanceBytes => "instance-bytes",
+        Limit::PairsBytes => "pairs-bytes",
+        Limit::ModelBytes => "model-bytes",
+        Limit::Variables => "variables",
+        Limit::Rows => "rows",
+        Limit::ProofBytes => "proof-bytes",
+    }
 }
 
 // The word for a kind of refusal.

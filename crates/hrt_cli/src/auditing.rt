@@ -9,11 +9,12 @@ ghost use Rattle.hrt_cli.specs.Answers.{GivesUp, IsAnswer, IsAnswered};
 ghost use Rattle.hrt_cli.specs.Ports.{ReadsInputs, WritesOutputs};
 ghost use Rattle.hrt_cli.specs.Reports.{audit_report, NamesDeclared};
 ghost use Rattle.hrt_cli.specs.Requests.{audit};
-ghost use Rattle.hrt_cli.specs.Verdicts.{audit_status, audited};
+ghost use Rattle.hrt_cli.specs.Statuses.{audit_status};
+ghost use Rattle.hrt_cli.specs.Verdicts.{audited};
 
-use crate::loading::{load, load_pairs};
-use crate::{Answer, Ended, Limit, Report, Status, explain};
+use crate::{Answer, Ended, Report, Status, explain};
 use hrt_base::{Host, NoMemory, PairNo};
+use hrt_inputs::{Limit, load, load_pairs};
 use rank_tables::Instance;
 use stability_audit::{Auditor, Verdict};
 use std::alloc::Global;

@@ -7,10 +7,9 @@ ghost use Rattle.hrt_cli.specs.Requests.{check};
 ghost use Rattle.hrt_cli.specs.Verdicts.{checked};
 
 use crate::claims::check_report;
-use crate::formulas::load_formula;
-use crate::judging::claim_on_formula;
 use crate::{Answer, Ended, Status, explain};
 use hrt_base::Host;
+use hrt_inputs::{claim_on_formula, load_formula};
 use proof_lines::Claim;
 use std::alloc::Global;
 

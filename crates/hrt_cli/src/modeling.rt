@@ -10,9 +10,9 @@ ghost use Rattle.hrt_cli.specs.Verdicts.{modeled};
 ghost use Rattle.hrt_cli.specs.Outputs.{output};
 ghost use Rattle.hrt_cli.specs.Writing.{EndsWriting, WritesAll, WritesInPart};
 
-use crate::loading::load;
-use crate::{Answer, Ended, Limit, Report, Status, explain};
+use crate::{Answer, Ended, Report, Status, explain};
 use hrt_base::{Begun, Host, NoMemory, Port, WriteEnd};
+use hrt_inputs::{Limit, load};
 use opb_text::write_model;
 use rank_tables::Instance;
 use stability_model::Model;

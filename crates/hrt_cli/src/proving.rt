@@ -9,10 +9,10 @@ ghost use Rattle.hrt_cli.specs.Requests.{bound, quick};
 ghost use Rattle.hrt_cli.specs.Verdicts.{bounded, first_claim, matched};
 ghost use Rattle.hrt_cli.specs.Writing.{AreBegun, SavesInPart, SavesProof, WritesNothing};
 
-use crate::loading::load;
 use crate::matches::{bound_report, quick_report};
-use crate::{Answer, Ended, Limit, Status, explain};
+use crate::{Answer, Ended, Status, explain};
 use hrt_base::{Begun, Host, Port, WriteEnd};
+use hrt_inputs::{Limit, load};
 use hrt_solve::{BoundEnd, SolveEnd};
 use rank_tables::Instance;
 use std::alloc::Global;

@@ -2,8 +2,9 @@
 ghost use Rattle.std.specs.Prelude.{◌≡◌, ◌++◌, codes, IfOk};
 ghost use Rattle.hrt_cli.specs.Reports.{TellsOfProof, line, model_kind_word, place_line, with_number};
 
-use crate::{ModelKind, Report};
+use crate::Report;
 use hrt_base::NoMemory;
+use hrt_inputs::ModelKind;
 use itoa::Buffer;
 use proof_checker::ProofRefusal;
 use std::alloc::Global;

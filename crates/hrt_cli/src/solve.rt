@@ -7,10 +7,10 @@ ghost use Rattle.hrt_cli.specs.Ports.{ReadsInputs, WritesOutputs};
 ghost use Rattle.hrt_cli.specs.Requests.{solve};
 ghost use Rattle.hrt_cli.specs.Verdicts.{solved};
 
-use crate::loading::load;
 use crate::matches::solve_report;
-use crate::{Answer, Ended, Limit, Status, explain};
+use crate::{Answer, Ended, Status, explain};
 use hrt_base::Host;
+use hrt_inputs::{Limit, load};
 use plain_enumeration::largest_stable;
 use rank_tables::Instance;
 use std::alloc::Global;

@@ -8,10 +8,9 @@ ghost use Rattle.hrt_cli.specs.Requests.{verify};
 ghost use Rattle.hrt_cli.specs.Verdicts.{verified};
 
 use crate::claims::verify_report;
-use crate::judging::claim_on_instance;
-use crate::loading::load;
-use crate::{Answer, Ended, Limit, Status, explain};
+use crate::{Answer, Ended, Status, explain};
 use hrt_base::Host;
+use hrt_inputs::{Limit, claim_on_instance, load};
 use proof_lines::Claim;
 use std::alloc::Global;
 

@@ -1,5 +1,5 @@
 // The words after the program's name.
-ghost use Rattle.std.specs.Prelude.{◌≡◌, option_map, map, string_bytes};
+ghost use Rattle.std.specs.Prelude.{◌≡◌, option_map};
 ghost use Rattle.hrt_cli.specs.Requests.{asked_by, is_file_name, request_of, one_file, texts_of, three, three_files, two, two_files};
 
 /// What is to be done, with the names of its files.

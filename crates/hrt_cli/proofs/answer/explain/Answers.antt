@@ -1,7 +1,7 @@
 use Rattle.std.proofs.Common.{subst, sym}
-use Rattle.hrt_cli.specs.declared.stop.Stop.{Stop}
+use Rattle.hrt_inputs.specs.declared.stop.Stop.{Stop}
 use Rattle.hrt_cli.specs.Answers.{Explains}
-use Rattle.hrt_cli.proofs.ProofFiles.{answer_with, refusal_told}
+use Rattle.hrt_cli.proofs.ToldProofs.{answer_with, refusal_told}
 use Rattle.hrt_cli.proofs.answer.explain.Goals as goal
 
 pub returns-in_ok-proof_refusal_report-in-ProofRefused-clause-told :

@@ -1,11 +1,11 @@
 // Models from files.
 ghost use Rattle.std.specs.Prelude.{◌≡◌, ◌≤◌, length, IfErr, IfOk, Ok};
 ghost use Rattle.opb_text.specs.Limits.{IsWithinLimits};
-ghost use Rattle.hrt_cli.specs.declared.limit.Limit.TheVariants.{ModelBytes};
-ghost use Rattle.hrt_cli.specs.Inputs.{BeginsAtMost};
-ghost use Rattle.hrt_cli.specs.Limits.{most};
-ghost use Rattle.hrt_cli.specs.Proofs.{IsFormulaRead, StopsModel, StopsModelText};
-ghost use Rattle.hrt_cli.specs.Verdicts.{formula_in};
+ghost use Rattle.hrt_inputs.specs.declared.limit.Limit.TheVariants.{ModelBytes};
+ghost use Rattle.hrt_inputs.specs.Inputs.{BeginsAtMost};
+ghost use Rattle.hrt_inputs.specs.Limits.{most};
+ghost use Rattle.hrt_inputs.specs.Formulas.{IsFormulaRead, StopsModel, StopsModelText};
+ghost use Rattle.hrt_inputs.specs.Taken.{formula_in};
 
 use crate::input::read_file;
 use crate::{Limit, Stop};

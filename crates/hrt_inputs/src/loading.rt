@@ -5,11 +5,12 @@ ghost use Rattle.rank_tables.specs.Numbers.{is_distinct};
 ghost use Rattle.rank_tables.specs.Tables.{numbers_of, IsPairNo};
 ghost use Rattle.rank_tables.specs.Terms.{model_terms};
 ghost use Rattle.rank_tables.specs.WellFormed.{most_pairs, most_terms};
-ghost use Rattle.hrt_cli.specs.declared.limit.Limit.TheVariants.{InstanceBytes, PairsBytes};
-ghost use Rattle.hrt_cli.specs.Inputs.{BeginsAtMost};
-ghost use Rattle.hrt_cli.specs.Limits.{most, IsOnPairs};
-ghost use Rattle.hrt_cli.specs.Loading.{ArePairsLoaded, IsLoaded, StopsLoading, StopsLoadingPairs, StopsPairsText, StopsText};
-ghost use Rattle.hrt_cli.specs.Verdicts.{audit_verdict, audited, exceeded, lists_in, of_few_terms, within};
+ghost use Rattle.hrt_inputs.specs.declared.limit.Limit.TheVariants.{InstanceBytes, PairsBytes};
+ghost use Rattle.hrt_inputs.specs.Inputs.{BeginsAtMost};
+ghost use Rattle.hrt_inputs.specs.Limits.{most, IsOnPairs};
+ghost use Rattle.hrt_inputs.specs.Loading.{ArePairsLoaded, IsLoaded, StopsLoading, StopsLoadingPairs, StopsPairsText, StopsText};
+ghost use Rattle.hrt_inputs.specs.Rejections.{exceeded};
+ghost use Rattle.hrt_inputs.specs.Taken.{lists_in, of_few_terms, pairs_in, within};
 
 use crate::input::read_file;
 use crate::{Limit, Stop};
@@ -115,10 +116,10 @@ pub fn load_pairs<H: Host>(
 // The pairs that a text spells.
 fn pairs_in(alloc: Global, bytes: &[u8], inst: &Instance) -> Result<Vec<PairNo>, Stop>
     requires { length bytes.now ≤ most PairsBytes }
-    ensures pairs { IfOk result (λ pairs. audit_verdict inst.now bytes.now ≡ audited inst.now (numbers_of pairs.items)) }
+    ensures pairs { IfOk result (λ pairs. pairs_in inst.now bytes.now ≡ Ok (numbers_of pairs.items)) }
     ensures in_range { IfOk result (λ pairs. All (λ p. IsPairNo inst.now p.0) pairs.items) }
     ensures distinct { IfOk result (λ pairs. IsTrue (is_distinct (numbers_of pairs.items))) }
-    ensures stopped { IfErr result (StopsPairsText (audit_verdict inst.now bytes.now)) }
+    ensures stopped { IfErr result (StopsPairsText (pairs_in inst.now bytes.now)) }
 {
     match read_pairs(alloc, bytes, inst) {
         Ok(pairs) => Ok(pairs),

@@ -8,9 +8,10 @@ use Rattle.rank_tables.specs.WellFormed.{most_terms}
 use Rattle.rank_tables.proofs.TermBound.{model_terms-le}
 use Rattle.hrt_text.specs.Text.{rows}
 use Rattle.hrt_reader.specs.Refusal.{refusal, lists_of_rows}
-use Rattle.hrt_cli.specs.declared.limit.Limit.TheVariants.{TriedPairs, InstanceBytes}
-use Rattle.hrt_cli.specs.Limits.{most}
-use Rattle.hrt_cli.specs.Verdicts.{Rejection, exceeded, lists_in, of_few_terms, unless_refused, within}
+use Rattle.hrt_inputs.specs.declared.limit.Limit.TheVariants.{TriedPairs, InstanceBytes}
+use Rattle.hrt_inputs.specs.Limits.{most}
+use Rattle.hrt_inputs.specs.Rejections.{Rejection, exceeded}
+use Rattle.hrt_inputs.specs.Taken.{lists_in, of_few_terms, unless_refused, within}
 
 square : (n : ℕ) → n ≤ 12 → n * n ≤ 144
 square n l = omega (arith, mul-le-mul_left n l)

@@ -1,4 +1,4 @@
--- What the loading of an instance comes to.
+-- What the loading of an instance and of pairs comes to.
 use Rattle.std.specs.Prelude.{◌≡◌, ◌≤◌, ◌⊎◌, ℕ, List, [], Some, Result, Ok, Err}
 use Rattle.hrt_base.specs.declared.port.Port.TheVariants.{Instance, Pairs}
 use Rattle.hrt_base.specs.declared.host.Begun.TheVariants.{Reading}
@@ -7,13 +7,14 @@ use Rattle.hrt_base.specs.World.{World, put, with_rest}
 use Rattle.rank_tables.specs.Instance.{Lists, pair_count}
 use Rattle.hrt_reader.specs.Kinds.{number}
 use Rattle.hrt_reader.specs.PairsAnswer.{pairs_number}
-use Rattle.hrt_cli.specs.declared.limit.Limit.{Limit}
-use Rattle.hrt_cli.specs.declared.limit.Limit.TheVariants.{InstanceBytes, PairsBytes}
-use Rattle.hrt_cli.specs.declared.stop.Stop.{Stop}
-use Rattle.hrt_cli.specs.declared.stop.Stop.TheVariants.{Refused, Exceeded, PairsRefused, ModelRefused, ProofRefused, ReadFault, NoMemory}
-use Rattle.hrt_cli.specs.Inputs.{OnlyRead}
-use Rattle.hrt_cli.specs.Limits.{most}
-use Rattle.hrt_cli.specs.Verdicts.{Rejection, Verdict, refused, exceeded, pairs_refused, rejected, audited, audit_verdict, lists_in, of_few_terms, within}
+use Rattle.hrt_inputs.specs.declared.limit.Limit.{Limit}
+use Rattle.hrt_inputs.specs.declared.limit.Limit.TheVariants.{InstanceBytes, PairsBytes}
+use Rattle.hrt_inputs.specs.declared.stop.Stop.{Stop}
+use Rattle.hrt_inputs.specs.declared.stop.Stop.TheVariants.{Refused, Exceeded, PairsRefused, ModelRefused, ProofRefused, ReadFault, NoMemory}
+use Rattle.hrt_inputs.specs.Inputs.{OnlyRead}
+use Rattle.hrt_inputs.specs.Limits.{most}
+use Rattle.hrt_inputs.specs.Rejections.{Rejection, refused, exceeded, pairs_refused}
+use Rattle.hrt_inputs.specs.Taken.{lists_in, of_few_terms, pairs_in, within}
 
 -- the lists of a text could not be had, and this is why
 abbrev pub StopsText : Result Lists Rejection → Stop → Type 0
@@ -57,21 +58,21 @@ StopsLoading told name limit NoMemory old new = OnlyRead told old new
 -- ---- pairs
 
 -- the pairs of a text could not be had, and this is why
-abbrev pub StopsPairsText : Verdict → Stop → Type 0
-StopsPairsText verdict (Refused kind line) = ⊥
-StopsPairsText verdict (Exceeded limit) = ⊥
-StopsPairsText verdict (PairsRefused kind line) = verdict ≡ rejected (pairs_refused (record { line = line; kind = pairs_number kind }))
-StopsPairsText verdict (ModelRefused kind line) = ⊥
-StopsPairsText verdict (ProofRefused refusal) = ⊥
-StopsPairsText verdict ReadFault = ⊥
-StopsPairsText verdict NoMemory = Unit {0}
+abbrev pub StopsPairsText : Result (List ℕ) Rejection → Stop → Type 0
+StopsPairsText pairs (Refused kind line) = ⊥
+StopsPairsText pairs (Exceeded limit) = ⊥
+StopsPairsText pairs (PairsRefused kind line) = pairs ≡ Err (pairs_refused (record { line = line; kind = pairs_number kind }))
+StopsPairsText pairs (ModelRefused kind line) = ⊥
+StopsPairsText pairs (ProofRefused refusal) = ⊥
+StopsPairsText pairs ReadFault = ⊥
+StopsPairsText pairs NoMemory = Unit {0}
 
 -- the file was read to its end and spells these pairs of the instance
 pub record ArePairsLoaded (told : Type 0) (name : List ℕ) (lists : Lists) (pairs : List ℕ) (old new : World) : Type 0 where
   pub only_read : OnlyRead told old new
   pub begun : new.begun ≡ put Pairs Reading old.begun
   pub content : told → new.content ≡ with_rest Pairs [] old.content
-  pub spelled : told → (bytes : List ℕ) × (old.content.file name ≡ Some bytes) × (audit_verdict lists bytes ≡ audited lists pairs)
+  pub spelled : told → (bytes : List ℕ) × (old.content.file name ≡ Some bytes) × (pairs_in lists bytes ≡ Ok pairs)
 
 -- the file was read to its end, or further than its limit, and is not taken
 pub record ArePairsRejected (told : Type 0) (name : List ℕ) (lists : Lists) (rejection : Rejection) (old new : World) : Type 0 where
@@ -79,7 +80,7 @@ pub record ArePairsRejected (told : Type 0) (name : List ℕ) (lists : Lists) (r
   pub begun : new.begun ≡ put Pairs Reading old.begun
   pub content : told → new.content ≡ with_rest Pairs (new.content.rest Pairs) old.content
   pub out : told → (new.content.rest Pairs ≡ []) ⊎ (rejection ≡ exceeded PairsBytes)
-  pub due : told → (bytes : List ℕ) × (old.content.file name ≡ Some bytes) × (audit_verdict lists bytes ≡ rejected rejection)
+  pub due : told → (bytes : List ℕ) × (old.content.file name ≡ Some bytes) × (pairs_in lists bytes ≡ Err rejection)
 
 abbrev pub StopsLoadingPairs : (told : Type 0) → List ℕ → Lists → Stop → World → World → Type 0
 StopsLoadingPairs told name lists (Refused kind line) old new = ⊥

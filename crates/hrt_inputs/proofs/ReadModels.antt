@@ -8,9 +8,10 @@ use Rattle.opb_text.specs.declared.refusal.OpbRefusal.TheVariants as opb
 use Rattle.opb_text.specs.Limits.{most_rows, most_variables}
 use Rattle.opb_text.specs.Refusal.{Spells, first_refusal, has_begun, line_refusal, lines_of, refusal, statement_refusal}
 use Rattle.opb_text.specs.Statements.{Line, Statement, constraint, formula_said, greatest_variable, minimize, nothing, read_statement, rows_in, statements}
-use Rattle.hrt_cli.specs.declared.limit.Limit.TheVariants.{ModelBytes}
-use Rattle.hrt_cli.specs.Limits.{most}
-use Rattle.hrt_cli.specs.Verdicts.{Rejection, exceeded, formula_in, unless_model_refused}
+use Rattle.hrt_inputs.specs.declared.limit.Limit.TheVariants.{ModelBytes}
+use Rattle.hrt_inputs.specs.Limits.{most}
+use Rattle.hrt_inputs.specs.Rejections.{Rejection, exceeded}
+use Rattle.hrt_inputs.specs.Taken.{formula_in, unless_model_refused}
 
 -- ---- no text is refused for want of memory
 

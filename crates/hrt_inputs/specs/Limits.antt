@@ -1,23 +1,10 @@
 -- What a run counts, and the most that it takes.
-use Rattle.std.specs.Prelude.{ℕ, List, codes}
-use Rattle.hrt_cli.specs.declared.limit.Limit.{Limit}
-use Rattle.hrt_cli.specs.declared.limit.Limit.TheVariants.{Residents, Hospitals, Pairs, TriedPairs, Terms, InstanceBytes, PairsBytes, ModelBytes, Variables, Rows, ProofBytes}
+use Rattle.std.specs.Prelude.{ℕ}
+use Rattle.hrt_inputs.specs.declared.limit.Limit.{Limit}
+use Rattle.hrt_inputs.specs.declared.limit.Limit.TheVariants.{Residents, Hospitals, Pairs, TriedPairs, Terms, InstanceBytes, PairsBytes, ModelBytes, Variables, Rows, ProofBytes}
 use Rattle.rank_tables.specs.WellFormed.{most_residents, most_hospitals, most_pairs, most_terms}
 use Rattle.opb_text.specs.Limits.{most_rows, most_variables}
 use Rattle.proof_checker.specs.Limits.{most_proof_bytes}
-
-abbrev pub name_of : Limit → List ℕ
-name_of Residents = codes "residents"
-name_of Hospitals = codes "hospitals"
-name_of Pairs = codes "pairs"
-name_of TriedPairs = codes "pairs"
-name_of Terms = codes "terms"
-name_of InstanceBytes = codes "instance-bytes"
-name_of PairsBytes = codes "pairs-bytes"
-name_of ModelBytes = codes "model-bytes"
-name_of Variables = codes "variables"
-name_of Rows = codes "rows"
-name_of ProofBytes = codes "proof-bytes"
 
 abbrev pub most : Limit → ℕ
 most Residents = most_residents

@@ -1,6 +1,6 @@
 // What a run counts, and the most that it takes.
 ghost use Rattle.std.specs.Prelude.{◌≡◌};
-ghost use Rattle.hrt_cli.specs.Limits.{most, name_of};
+ghost use Rattle.hrt_inputs.specs.Limits.{most};
 
 /// What there can be too much of.
 #[derive(Clone, Copy, Debug, PartialEq, Eq)]
@@ -23,24 +23,6 @@ pub enum Limit {
 }
 
 impl Limit {
-    /// The word for it in a report.
-    pub fn name(self) -> &'static str
-        ensures { result.now ≡ name_of self }
-    {
-        match self {
-            Limit::Residents => "residents",
-            Limit::Hospitals => "hospitals",
-            Limit::Pairs | Limit::TriedPairs => "pairs",
-            Limit::Terms => "terms",
-            Limit::InstanceBytes => "instance-bytes",
-            Limit::PairsBytes => "pairs-bytes",
-            Limit::ModelBytes => "model-bytes",
-            Limit::Variables => "variables",
-            Limit::Rows => "rows",
-            Limit::ProofBytes => "proof-bytes",
-        }
-    }
-
     /// The most of it that is taken.
     pub fn most(self) -> u64
         ensures { result ≡ most self }

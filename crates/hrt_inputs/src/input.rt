@@ -1,13 +1,13 @@
 // Files that are read whole.
 ghost use Rattle.std.specs.Prelude.{◌≡◌, ◌≤◌, length, IfOk, OnErr, IsErrOf};
 ghost use Rattle.hrt_base.specs.Calls.{Rose};
-ghost use Rattle.hrt_cli.specs.Inputs.{BeginsAtMost, WasRead, IsTooLong, OnlyRead};
+ghost use Rattle.hrt_inputs.specs.Inputs.{BeginsAtMost, WasRead, IsTooLong, OnlyRead};
 
 use hrt_base::{Begun, Host, Port, ReadEnd, read_all};
 use std::alloc::Global;
 
 /// The bytes of a file, read on the port to its end, unless it has more than `limit` bytes.
-pub fn read_file<H: Host>(
+pub(crate) fn read_file<H: Host>(
     alloc: Global,
     host: &mut H,
     port: Port,

@@ -12,20 +12,14 @@ use Rattle.hrt_base.proofs.Pieces.{put_here, with_rest_twice}
 use Rattle.pb_rows.specs.Formula.{Formula}
 use Rattle.proof_lines.specs.declared.line.Claim.{Claim}
 use Rattle.proof_rules.specs.Texts.{Verdict}
-use Rattle.proof_checker.specs.declared.refusal.ProofRefusal.{ProofRefusal}
-use Rattle.proof_checker.specs.declared.refusal.ProofRefusal.TheVariants as proof
 use Rattle.hrt_solve.specs.declared.refusal.CheckRefusal.{CheckRefusal}
 use Rattle.hrt_solve.specs.declared.refusal.CheckRefusal.TheVariants as check
 use Rattle.proof_checker.specs.Limits.{most_proof_bytes}
 use Rattle.hrt_solve.specs.Judged.{IsJudged, StopsCheck}
-use Rattle.hrt_cli.specs.declared.answer.Answer.{Answer}
-use Rattle.hrt_cli.specs.declared.status.Status.TheVariants.{ProofRefused}
-use Rattle.hrt_cli.specs.declared.stop.Stop.{Stop}
-use Rattle.hrt_cli.specs.Answers.{TellsRefusal}
-use Rattle.hrt_cli.specs.Inputs.{IsTooLong, OnlyRead}
-use Rattle.hrt_cli.specs.Proofs.{IsProofJudged, StopsProof, check_stop}
-use Rattle.hrt_cli.specs.Reports.{TellsOfProof}
-use Rattle.hrt_cli.proofs.Ports.{reading_writers}
+use Rattle.hrt_inputs.specs.declared.stop.Stop.{Stop}
+use Rattle.hrt_inputs.specs.Inputs.{IsTooLong, OnlyRead}
+use Rattle.hrt_inputs.specs.Proofs.{IsProofJudged, StopsProof, check_stop}
+use Rattle.hrt_inputs.proofs.Ports.{reading_writers}
 
 -- ---- a port that was begun, and from which bytes were taken
 
@@ -93,22 +87,3 @@ pub proof_stops : (told : Type 0) (name : List ℕ) (f : Formula) (r : Result Cl
 proof_stops told name f (Ok claim) refusal old mid new idle opened stopped is = tt
 proof_stops told name f (Err stop) refusal old mid new idle opened stopped is =
     subst (λ (s : Stop). StopsProof told name f s old new) (sym is) (stops told name f refusal old mid new idle opened stopped)
-
--- ---- what is told of it
-
-abbrev pub answer_with : List ℕ → Answer
-answer_with text = record { status = ProofRefused; report = text }
-
-pub refusal_told : (refusal : ProofRefusal) (text : List ℕ) → TellsOfProof refusal text → TellsRefusal refusal (answer_with text)
-refusal_told (proof.Syntax line) text tells done = record { status = refl; report = tells done }
-refusal_told (proof.BadId line id) text tells done = record { status = refl; report = tells done }
-refusal_told (proof.BadVariable line var) text tells done = record { status = refl; report = tells done }
-refusal_told (proof.StackShape line) text tells done = record { status = refl; report = tells done }
-refusal_told (proof.TooBig line) text tells done = record { status = refl; report = tells done }
-refusal_told (proof.NotFull line) text tells done = record { status = refl; report = tells done }
-refusal_told (proof.NotImplied line) text tells done = record { status = refl; report = tells done }
-refusal_told (proof.NotASolution line row) text tells done = record { status = refl; report = tells done }
-refusal_told (proof.BoundNotShown line) text tells done = record { status = refl; report = tells done }
-refusal_told (proof.WrongCount line) text tells done = record { status = refl; report = tells done }
-refusal_told proof.Truncated text tells done = record { status = refl; report = tells done }
-refusal_told proof.NoMemory text tells done = tt

@@ -4,8 +4,8 @@ ghost use Rattle.opb_text.specs.Limits.{IsWithinLimits};
 ghost use Rattle.stability_model.specs.Model.{formula};
 ghost use Rattle.proof_lines.specs.Spelling.{is_small_claim};
 ghost use Rattle.proof_rules.specs.Texts.{Accepted};
-ghost use Rattle.hrt_cli.specs.Inputs.{BeginsAtMost};
-ghost use Rattle.hrt_cli.specs.Proofs.{IsProofJudged, StopsProof};
+ghost use Rattle.hrt_inputs.specs.Inputs.{BeginsAtMost};
+ghost use Rattle.hrt_inputs.specs.Proofs.{IsProofJudged, StopsProof};
 
 use crate::Stop;
 use hrt_base::{Begun, Host, Port};

@@ -1,9 +1,9 @@
 use Rattle.std.proofs.Common.{ap, ◌∙◌}
 use Rattle.hrt_text.specs.Text.{rows}
 use Rattle.hrt_reader.specs.Refusal.{lists_of_rows}
-use Rattle.hrt_cli.specs.Verdicts.{of_few_terms, within}
-use Rattle.hrt_cli.proofs.FewTerms.{lists_taken}
-use Rattle.hrt_cli.proofs.loading.instance_in.Goals as goal
+use Rattle.hrt_inputs.specs.Taken.{of_few_terms, within}
+use Rattle.hrt_inputs.proofs.FewTerms.{lists_taken}
+use Rattle.hrt_inputs.proofs.loading.instance_in.Goals as goal
 
 pub returns-in-Err-Limit-Terms-clause-stopped : goal.returns-in-Err-Limit-Terms-clause-stopped
 returns-in-Err-Limit-Terms-clause-stopped c =

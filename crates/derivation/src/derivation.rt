@@ -264,8 +264,12 @@ impl<'a> Derivation<'a> {
     {
         let line = del_line(alloc, ids)?;
         let text = text_of(alloc, &line)?;
+        let length = self.pending.len();
         self.pending.extend_from_slice(&text)?;
-        self.rows.remove_all(ids);
+        if self.rows.remove_all(alloc, ids).is_err() {
+            self.pending.truncate(length);
+            return Err(NoMemory);
+        }
         Ok(())
     }
 

@@ -1,6 +1,6 @@
 -- What the call that makes an offer's row asks for, and what it does.
-use Rattle.std.proofs.Common.{◌≡◌, ℕ, ◌+◌, ◌-◌, ◌*◌, ◌<◌, ◌≤◌, ◌^◌, Bool, true, ◌==◌, take, List, [], ◌∷◌, ◌++◌, if◌then◌else◌, length, count_by, refl, sym, ap, ap₂, ◌∙◌, subst, inl, inr, arith}
-use Rattle.std.specs.Prelude.{flat_map, Option, Some, None, Result, Ok, Err, slice_get}
+use Rattle.std.proofs.Common.{◌≡◌, ℕ, ◌+◌, ◌-◌, ◌*◌, ◌<◌, ◌≤◌, ◌^◌, Bool, true, ◌==◌, take, List, [], ◌∷◌, ◌++◌, if◌then◌else◌, length, count_by, refl, sym, ap, ap₂, ◌∙◌, subst, arith}
+use Rattle.std.specs.Prelude.{flat_map, Option, Some, None, Result, Ok, IsOk, is_ok, slice_get}
 use Rattle.std.proofs.lemmas.Bool.{and_from, eq-eqb}
 use Rattle.std.proofs.lemmas.Option.{slice_get_within}
 use Rattle.std.proofs.lemmas.List.{take_all}
@@ -24,16 +24,15 @@ use Rattle.proof_lines.specs.declared.line.PolStep.TheVariants.{Id, Add}
 use Rattle.proof_lines.specs.declared.line.Line.TheVariants.{Pol}
 use Rattle.proof_lines.specs.Spelling.{row_no}
 use Rattle.proof_lines.specs.Texts.{line_text}
-use Rattle.proof_rules.specs.Refusals.{Refusal, TooBig, and_then}
+use Rattle.proof_rules.specs.Refusals.{Refusal, and_then}
 use Rattle.proof_rules.specs.Pol.{pol_row}
 use Rattle.proof_rules.specs.States.{IsInOrder, State, with_row}
 use Rattle.derivation.specs.Deletions.{AreUnitRows, Deletions, is_deleted}
 use Rattle.derivation.specs.Derived.{Derived}
 use Rattle.derivation.specs.Ready.{IsReady}
-use Rattle.derivation.specs.Steps.{IsRowOrTooBig, IsWritable, Takes, with_new_row}
+use Rattle.derivation.specs.Steps.{IsWritable, Takes, with_new_row}
 use Rattle.pair_reduction.specs.Offers.{before_steps, is_before, offer_row, offer_steps, row_steps}
 use Rattle.pair_reduction.proofs.OfferRow.{offer_made}
-use Rattle.pair_reduction.proofs.OfferRun.{TooBigOr}
 use Rattle.pair_reduction.proofs.Writable.{AreGood, each_good, good_append, good_writable, live_good}
 
 -- ---- live rows of the model
@@ -62,19 +61,12 @@ steps_done lists inst deletions q r h i pairs so_far final number same is so all
     ∙ ap (λ (l : Lists). Id (row_no (pair_row_no lists q)) ∷ flat_map (before_steps l deletions q) (pairs_of_resident l (pair_at l q).resident)) same)
     (ap row_steps (row ∙ ap (hospital_row_no lists) (hospital ∙ ap (λ (l : Lists). (pair_at l q).hospital) same)))
 
--- a line whose row is known, if it isn't too big
-pub taken_row : (steps : List PolStep) (old new : Derived) (row : PlainRow) → TooBigOr (pol_row (pair_count old.lists) old.state.live steps) (Ok row) → Takes (Pol steps) old new → new ≡ with_new_row row (line_text (Pol steps)) old
-taken_row steps old new row (inl e) taken =
-    let wrong : ◌≡◌ {A = Result State Refusal} (Ok new.state) (Err TooBig) = sym taken.step.leads ∙ ap (λ (r : Result PlainRow Refusal). and_then r (λ made. Ok (with_row old.state made))) e in
-    absurd (cc)
-taken_row steps old new row (inr made) taken =
+-- a line whose row is known
+pub taken_row : (steps : List PolStep) (old new : Derived) (row : PlainRow) → pol_row (pair_count old.lists) old.state.live steps ≡ Ok row → Takes (Pol steps) old new → new ≡ with_new_row row (line_text (Pol steps)) old
+taken_row steps old new row made taken =
     let ok : ◌≡◌ {A = Result State Refusal} (Ok (with_row old.state row)) (Ok new.state) = sym (ap (λ (r : Result PlainRow Refusal). and_then r (λ made. Ok (with_row old.state made))) made) ∙ taken.step.leads in
     let state : new.state ≡ with_row old.state row = cc in
     taken.is ∙ ap (λ (s : State). record old { state = s; pending = old.pending ++ line_text (Pol steps) }) state
-
-pub shape_of : (r : Result PlainRow Refusal) (row : PlainRow) → TooBigOr r (Ok row) → IsRowOrTooBig r
-shape_of r row (inl e) = subst IsRowOrTooBig (sym e) tt
-shape_of r row (inr e) = subst IsRowOrTooBig (sym e) tt
 
 -- ---- within the limits
 
@@ -107,13 +99,6 @@ module _ (lists : Lists) (formed : IsWellFormed lists) (q : ℕ) (q_is : IsPairN
   pair_live : row_of (pair_row_no lists q) d.state.live ≡ Some (in_normal_form (pair_row lists q))
   pair_live = model_row lists d (pair_row_no lists q) (pair_row lists q) same ready (omega (arith, q_is.0)) pair_is
 
-  made : TooBigOr (pol_row (pair_count lists) d.state.live (offer_steps lists deletions q)) (Ok (offer_row lists q))
-  made = offer_made lists formed q q_is few d.state.live deletions units only pair_live hospital_no hospital_live numbered
-
-  pub made_here : TooBigOr (pol_row (pair_count d.lists) d.state.live steps) (Ok (offer_row lists q))
-  made_here = subst (λ (s : List PolStep). TooBigOr (pol_row (pair_count d.lists) d.state.live s) (Ok (offer_row lists q))) (sym are)
-      (subst (λ (l : Lists). TooBigOr (pol_row (pair_count l) d.state.live (offer_steps lists deletions q)) (Ok (offer_row lists q))) same made)
-
   of_resident : length (pairs_of_resident lists (pair_at lists q).resident) ≤ 100000
   of_resident =
       let f = length-filter (λ p. (pair_at lists p).resident == (pair_at lists q).resident) (numbers_to (pair_count lists)) in
@@ -124,24 +109,31 @@ module _ (lists : Lists) (formed : IsWellFormed lists) (q : ℕ) (q_is : IsPairN
       subst (λ (o : Option ℕ). AreGood (row_steps o) 21) (sym numbered)
       (good_append (Id (row_no hospital_no) ∷ []) (Add ∷ []) 19 2 (live_good d.state.live d.state.next order (omega arith) (row_no hospital_no) (in_normal_form (hospital_row lists (pair_at lists q).hospital)) hospital_live) (record { made = refl; small = refl; short = omega arith }))
 
-  pub offer_writable : IsWritable (Pol steps)
-  offer_writable =
-      subst (λ (s : List PolStep). IsWritable (Pol s)) (sym are)
-      (good_writable (Id (row_no (pair_row_no lists q))) (flat_map (before_steps lists deletions q) (pairs_of_resident lists (pair_at lists q).resident) ++ row_steps (hospital_row_no lists (pair_at lists q).hospital))
+  line_writable : IsWritable (Pol (offer_steps lists deletions q))
+  line_writable =
+      good_writable (Id (row_no (pair_row_no lists q))) (flat_map (before_steps lists deletions q) (pairs_of_resident lists (pair_at lists q).resident) ++ row_steps (hospital_row_no lists (pair_at lists q).hospital))
       (19 + (29 * length (pairs_of_resident lists (pair_at lists q).resident) + 21))
       (good_append (Id (row_no (pair_row_no lists q)) ∷ []) (flat_map (before_steps lists deletions q) (pairs_of_resident lists (pair_at lists q).resident) ++ row_steps (hospital_row_no lists (pair_at lists q).hospital)) 19
       (29 * length (pairs_of_resident lists (pair_at lists q).resident) + 21)
       (live_good d.state.live d.state.next order (omega arith) (row_no (pair_row_no lists q)) (in_normal_form (pair_row lists q)) pair_live)
       (good_append (flat_map (before_steps lists deletions q) (pairs_of_resident lists (pair_at lists q).resident)) (row_steps (hospital_row_no lists (pair_at lists q).hospital)) (29 * length (pairs_of_resident lists (pair_at lists q).resident)) 21
       (each_good d.state.live d.state.next order (omega arith) (capacity_of lists (pair_at lists q).hospital) posts most_posts (is_before lists q) deletions units (pairs_of_resident lists (pair_at lists q).resident)) hospital_good))
-      (omega (arith, of_resident)))
+      (omega (arith, of_resident))
+
+  pub offer_writable : IsWritable (Pol steps)
+  offer_writable = subst (λ (s : List PolStep). IsWritable (Pol s)) (sym are) line_writable
+
+  pub made_here : pol_row (pair_count d.lists) d.state.live steps ≡ Ok (offer_row lists q)
+  made_here =
+      ap₂ (λ (l : Lists) (s : List PolStep). pol_row (pair_count l) d.state.live s) (sym same) are
+      ∙ offer_made lists formed q q_is most most_posts few d.state.live deletions units only pair_live hospital_no hospital_live numbered line_writable.small
 
   pub offer_done : (new : Derived) → Takes (Pol steps) d new → new ≡ with_new_row (offer_row lists q) (line_text (Pol (offer_steps lists deletions q))) d
   offer_done new taken = taken_row steps d new (offer_row lists q) made_here taken ∙ ap (λ (s : List PolStep). with_new_row (offer_row lists q) (line_text (Pol s)) d) are
 
 pub record MakesOffer (lists : Lists) (q : ℕ) (d : Derived) (deletions : Deletions) (steps : List PolStep) : Type 0 where
   pub writable : IsWritable (Pol steps)
-  pub shape : IsRowOrTooBig (pol_row (pair_count d.lists) d.state.live steps)
+  pub made : IsOk (pol_row (pair_count d.lists) d.state.live steps)
   pub done : (new : Derived) → Takes (Pol steps) d new → new ≡ with_new_row (offer_row lists q) (line_text (Pol (offer_steps lists deletions q))) d
 
 pub makes_offer : (lists : Lists) (q : ℕ) (d : Derived) (deletions : Deletions) (steps : List PolStep) (k : ℕ) → Limits lists q → IsPairNo lists q → lists ≡ d.lists → IsReady d → IsInOrder d.state → d.state.next < 10 ^ 18 → AreUnitRows d.state.live deletions →
@@ -151,6 +143,6 @@ makes_offer lists q d deletions steps k limits q_is same ready order next units 
     let pair_is : IsRow lists (pair_row_no lists q) (pair_row lists q) = subst (λ (j : ℕ). IsRow lists j (pair_row lists q)) number row in
     record {
       writable = offer_writable lists limits.formed q q_is d same ready order next deletions units only posts few limits.most limits.most_posts limits.declared pair_is steps are;
-      shape = shape_of (pol_row (pair_count d.lists) d.state.live steps) (offer_row lists q) (made_here lists limits.formed q q_is d same ready order next deletions units only posts few limits.most limits.most_posts limits.declared pair_is steps are);
+      made = ap (λ (r : Result PlainRow Refusal). is_ok r) (made_here lists limits.formed q q_is d same ready order next deletions units only posts few limits.most limits.most_posts limits.declared pair_is steps are);
       done = offer_done lists limits.formed q q_is d same ready order next deletions units only posts few limits.most limits.most_posts limits.declared pair_is steps are;
     }

@@ -1,7 +1,8 @@
 -- The line of an offer makes its row.
-use Rattle.std.proofs.Common.{◌≡◌, ℕ, suc, ◌+◌, ◌-◌, ◌≤◌, Bool, true, false, not, ◌&&◌, ◌||◌, ◌==◌, List, [], ◌∷◌, ◌++◌, nat_lt, nat_le, if◌then◌else◌, length, ℤ, pos, negsuc, ◌+ℤ◌, refl, sym, ap, ap₂, ◌∙◌, subst, inl, inr, arith}
+use Rattle.std.proofs.Common.{◌≡◌, ℕ, suc, ◌+◌, ◌-◌, ◌≤◌, Bool, true, false, not, ◌&&◌, ◌||◌, ◌==◌, List, [], ◌∷◌, ◌++◌, nat_lt, nat_le, if◌then◌else◌, length, ℤ, pos, negsuc, ◌+ℤ◌, refl, sym, ap, ap₂, ◌∙◌, subst, arith}
 use Rattle.std.specs.Prelude.{flat_map, Option, Some, None, Result, Ok, Err, is_some, IfSome}
 use Rattle.std.specs.List.{list_all}
+use Rattle.std.specs.Int.RustNames.{unsigned_abs}
 use Rattle.std.proofs.lemmas.Int.{ints}
 use Rattle.std.proofs.lemmas.Bool.{and_from, and_parts, eq-eqb, eqb-true, leb-true, true≢false, not-true, le-ltb}
 use Rattle.std.proofs.lemmas.List.Sums.{length-filter}
@@ -28,9 +29,9 @@ use Rattle.proof_lines.specs.Spelling.{is_small_step, row_no}
 use Rattle.proof_rules.specs.Refusals.{Refusal, TooBig, and_then}
 use Rattle.proof_rules.specs.Pol.{fits, only_row, pol_row, run_steps}
 use Rattle.derivation.specs.Deletions.{AreUnitRows, Deletions, is_deleted, unit_of, unit_row}
-use Rattle.pair_reduction.specs.Offers.{offer_steps, row_steps, before_steps, is_before, offer_row}
+use Rattle.pair_reduction.specs.Offers.{offer_steps, row_steps, before_steps, is_before, is_lower, offer_row}
 use Rattle.pair_reduction.proofs.AtMost.{counted_below}
-use Rattle.pair_reduction.proofs.OfferRun.{Clears, TooBigOr, all_run, cleared, cleared-is, id_run, passed_on, pushed}
+use Rattle.pair_reduction.proofs.OfferRun.{AreSmall, Clears, all_run, cleared, cleared-is, id_run, pushed, small_fits, small_minus}
 use Rattle.pair_reduction.proofs.RuleB.{offer_coefs, offer_row-coefs}
 
 -- a pair or not, q itself, of its resident and as high there, of its hospital and as high there
@@ -51,10 +52,22 @@ final true false false a false l c x y = refl
 lower_is : (x y : ℕ) → nat_lt x y ≡ not (nat_le y x)
 lower_is x y = grind (arith, nat_tests)
 
-module _ (lists : Lists) (formed : IsWellFormed lists) (q : ℕ) (q_is : IsPairNo lists q) where
-  n : ℕ
-  n = pair_count lists
+-- ---- sizes
 
+pair_size : (b s a o : Bool) (c : ℕ) → c ≤ 20000 → unsigned_abs (if b then pos (if s then c + 1 else if a then c else if o then 1 else 0) else pos 0) ≤ 20001
+pair_size false s a o c h = omega arith
+pair_size true true a o c h = omega arith
+pair_size true false true o c h = omega arith
+pair_size true false false true c h = omega arith
+pair_size true false false false c h = omega arith
+
+offer_size : (b s l : Bool) (c : ℕ) → c ≤ 20000 → unsigned_abs (if b then (if s then pos c else (if l then negsuc 0 else pos 0)) else pos 0) ≤ 20001
+offer_size false s l c h = omega arith
+offer_size true true l c h = omega arith
+offer_size true false true c h = omega arith
+offer_size true false false c h = omega arith
+
+module _ (lists : Lists) (formed : IsWellFormed lists) (q : ℕ) (q_is : IsPairNo lists q) where
   -- what is left of the pair's row
   abbrev pub left_coefs : ℕ → ℤ
   left_coefs = cleared (is_before lists q) (pairs_of_resident lists (pair_at lists q).resident) (pair_coefs lists q)
@@ -100,8 +113,8 @@ module _ (lists : Lists) (formed : IsWellFormed lists) (q : ℕ) (q_is : IsPairN
       ap negative_part (cleared-is (is_before lists q) (pairs_of_resident lists (pair_at lists q).resident) (pair_coefs lists q) v)
       ∙ zero_or (is_in v (pairs_of_resident lists (pair_at lists q).resident) && is_before lists q v) (pair_coefs lists q v) (pair_positive v)
 
-  -- the posts are no more than the hospital's pairs
-  module _ (few : capacity_of lists (pair_at lists q).hospital ≤ length (pairs_of_hospital lists (pair_at lists q).hospital)) where
+  -- the posts are no more than the hospital's pairs, and within the limits
+  module _ (most : pair_count lists ≤ 100000) (most_posts : capacity_of lists (pair_at lists q).hospital ≤ 20000) (few : capacity_of lists (pair_at lists q).hospital ≤ length (pairs_of_hospital lists (pair_at lists q).hospital)) where
     posts_minus : minus_sum (suc (pair_count lists)) post_coefs ≡ length (pairs_of_hospital lists (pair_at lists q).hospital)
     posts_minus =
         sum_below-same (suc (pair_count lists)) (λ v. negative_part (post_coefs v)) (λ v. if is_in v (numbers_to (pair_count lists)) && ((pair_at lists v).hospital == (pair_at lists q).hospital) then 1 else 0)
@@ -120,6 +133,20 @@ module _ (lists : Lists) (formed : IsWellFormed lists) (q : ℕ) (q_is : IsPairN
         (coef_row (suc (pair_count lists)) left_coefs c) (coef_row (suc (pair_count lists)) post_coefs (m - c)) refl (coefs-nets (suc (pair_count lists)) post_coefs) refl (λ v l. sums v)
         (omega (arith, none_negative (suc (pair_count lists)) left_coefs left_positive, posts_minus, few))
         ∙ sym (offer_row-coefs lists q)
+
+    pair_small : AreSmall (pair_coefs lists q)
+    pair_small v =
+        pair_size (is_in v (numbers_to (pair_count lists))) (v == q) ((pair_at lists v).resident == (pair_at lists q).resident && nat_le (rank_by_resident lists v) (rank_by_resident lists q))
+        ((pair_at lists v).hospital == (pair_at lists q).hospital && nat_le (rank_by_hospital lists v) (rank_by_hospital lists q)) (capacity_of lists (pair_at lists q).hospital) most_posts
+
+    offer_small : AreSmall (offer_coefs lists q)
+    offer_small v = offer_size (is_in v (numbers_to (pair_count lists))) (v == q) (is_lower lists q v) (capacity_of lists (pair_at lists q).hospital) most_posts
+
+    offer_fits : fits (offer_row lists q) ≡ true
+    offer_fits =
+        ap fits (offer_row-coefs lists q)
+        ∙ small_fits (suc (pair_count lists)) (minus_sum (suc (pair_count lists)) (offer_coefs lists q)) (offer_coefs lists q) (omega (arith, most))
+        (omega (arith, most, small_minus (suc (pair_count lists)) (offer_coefs lists q) offer_small)) offer_small
 
     module _ (live : List NumberedRow) (deletions : Deletions) (units : AreUnitRows live deletions) (only : has_only lists (is_deleted deletions) q ≡ true) (pair_live : row_of (pair_row_no lists q) live ≡ Some (in_normal_form (pair_row lists q))) (k : ℕ) (hospital_live : row_of k live ≡ Some (in_normal_form (hospital_row lists (pair_at lists q).hospital))) where
       some_unit : (p : ℕ) (o : Option RowNo) → unit_of deletions p ≡ o → is_some o ≡ true → (id : RowNo) × (unit_of deletions p ≡ Some id)
@@ -159,26 +186,25 @@ module _ (lists : Lists) (formed : IsWellFormed lists) (q : ℕ) (q_is : IsPairN
                 (pair_listed lists p here.0) other (and_from ((pair_at lists p).resident == (pair_at lists q).resident) (nat_le (rank_by_resident lists p) (rank_by_resident lists q)) (eq-eqb (pair_at lists p).resident (pair_at lists q).resident here.1) two.1);
           }
 
-      runs : TooBigOr (run_steps (pair_count lists) live (Id (row_no (pair_row_no lists q)) ∷ (flat_map (before_steps lists deletions q) (pairs_of_resident lists (pair_at lists q).resident) ++ Id (row_no k) ∷ Add ∷ [])) []) (Ok (offer_row lists q ∷ []))
+      runs : run_steps (pair_count lists) live (Id (row_no (pair_row_no lists q)) ∷ (flat_map (before_steps lists deletions q) (pairs_of_resident lists (pair_at lists q).resident) ++ Id (row_no k) ∷ Add ∷ [])) [] ≡ Ok (offer_row lists q ∷ [])
       runs =
           let c : ℕ = capacity_of lists (pair_at lists q).hospital in
           let tail : List PolStep = Id (row_no k) ∷ Add ∷ [] in
           let steps : List PolStep = flat_map (before_steps lists deletions q) (pairs_of_resident lists (pair_at lists q).resident) ++ Id (row_no k) ∷ Add ∷ [] in
           let row : PlainRow = in_normal_form (hospital_row lists (pair_at lists q).hospital) in
-          passed_on _ _ _ (inr (id_run (pair_count lists) live (row_no (pair_row_no lists q)) (in_normal_form (pair_row lists q)) steps [] pair_live
-          ∙ ap (λ (r : PlainRow). run_steps (pair_count lists) live steps (r ∷ [])) (pair_row-coefs lists q)))
-          (passed_on _ _ _ (all_run (pair_count lists) live (suc (pair_count lists)) c deletions (is_before lists q) (pairs_of_resident lists (pair_at lists q).resident) (pair_coefs lists q) tail
-          (distinct-filter (λ p. (pair_at lists p).resident == (pair_at lists q).resident) (numbers_to (pair_count lists)) (distinct-numbers_to (pair_count lists))) clears pair_positive)
-          (passed_on _ _ _ (inr (id_run (pair_count lists) live (row_no k) row (Add ∷ []) (coef_row (suc (pair_count lists)) left_coefs c ∷ []) hospital_live))
-          (passed_on _ _ _ (pushed (fits (add (coef_row (suc (pair_count lists)) left_coefs c) row)) (add (coef_row (suc (pair_count lists)) left_coefs c) row) [] (λ next. run_steps (pair_count lists) live [] next))
-          (inr (ap (λ (r : PlainRow). Ok (r ∷ [])) last_added)))))
+          id_run (pair_count lists) live (row_no (pair_row_no lists q)) (in_normal_form (pair_row lists q)) steps [] pair_live
+          ∙ ap (λ (r : PlainRow). run_steps (pair_count lists) live steps (r ∷ [])) (pair_row-coefs lists q)
+          ∙ all_run (pair_count lists) live (suc (pair_count lists)) c (omega (arith, most)) most_posts deletions (is_before lists q) (pairs_of_resident lists (pair_at lists q).resident) (pair_coefs lists q) tail
+          (distinct-filter (λ p. (pair_at lists p).resident == (pair_at lists q).resident) (numbers_to (pair_count lists)) (distinct-numbers_to (pair_count lists))) clears pair_small pair_positive
+          ∙ id_run (pair_count lists) live (row_no k) row (Add ∷ []) (coef_row (suc (pair_count lists)) left_coefs c ∷ []) hospital_live
+          ∙ pushed (fits (add (coef_row (suc (pair_count lists)) left_coefs c) row)) (add (coef_row (suc (pair_count lists)) left_coefs c) row) [] (λ next. run_steps (pair_count lists) live [] next) (ap fits last_added ∙ offer_fits)
+          ∙ ap (λ (r : PlainRow). Ok (r ∷ [])) last_added
 
-      by_small : (b : Bool) (r : Result (List PlainRow) Refusal) → TooBigOr r (Ok (offer_row lists q ∷ [])) → TooBigOr (if b then and_then r only_row else Err TooBig) (Ok (offer_row lists q))
-      by_small false r h = inl refl
-      by_small true r (inl e) = inl (ap (λ (x : Result (List PlainRow) Refusal). and_then x only_row) e)
-      by_small true r (inr e) = inr (ap (λ (x : Result (List PlainRow) Refusal). and_then x only_row) e)
+      by_small : (b : Bool) (r : Result (List PlainRow) Refusal) → b ≡ true → r ≡ Ok (offer_row lists q ∷ []) → (if b then and_then r only_row else Err TooBig) ≡ Ok (offer_row lists q)
+      by_small b r s e = rw (s, e) refl
 
-      pub offer_made : hospital_row_no lists (pair_at lists q).hospital ≡ Some k → TooBigOr (pol_row (pair_count lists) live (offer_steps lists deletions q)) (Ok (offer_row lists q))
-      offer_made e =
-          subst (λ (o : Option ℕ). TooBigOr (pol_row (pair_count lists) live (Id (row_no (pair_row_no lists q)) ∷ (flat_map (before_steps lists deletions q) (pairs_of_resident lists (pair_at lists q).resident) ++ row_steps o))) (Ok (offer_row lists q))) (sym e)
-          (by_small (list_all is_small_step (Id (row_no (pair_row_no lists q)) ∷ (flat_map (before_steps lists deletions q) (pairs_of_resident lists (pair_at lists q).resident) ++ Id (row_no k) ∷ Add ∷ []))) _ runs)
+      pub offer_made : hospital_row_no lists (pair_at lists q).hospital ≡ Some k → list_all is_small_step (offer_steps lists deletions q) ≡ true → pol_row (pair_count lists) live (offer_steps lists deletions q) ≡ Ok (offer_row lists q)
+      offer_made e small =
+          let steps : Option ℕ → List PolStep = λ o. Id (row_no (pair_row_no lists q)) ∷ (flat_map (before_steps lists deletions q) (pairs_of_resident lists (pair_at lists q).resident) ++ row_steps o) in
+          by_small (list_all is_small_step (offer_steps lists deletions q)) (run_steps (pair_count lists) live (offer_steps lists deletions q) []) small
+          (ap (λ (o : Option ℕ). run_steps (pair_count lists) live (steps o) []) e ∙ runs)

@@ -1,19 +1,22 @@
--- What the steps of an offer's line leave on the stack: its row, or a row that is too big.
-use Rattle.std.proofs.Common.{◌≡◌, ℕ, zero, suc, ◌*◌, ◌<◌, Bool, true, false, not, ◌&&◌, ◌||◌, ◌==◌, List, [], ◌∷◌, ◌++◌, if◌then◌else◌, ℤ, pos, neg_ℤ, ◌+ℤ◌, refl, sym, ap, ◌∙◌, ◌⊎◌, inl, inr, arith, append_assoc}
+-- What the steps of an offer's line leave on the stack: its row, and no row on the way is too big.
+use Rattle.std.proofs.Common.{◌≡◌, ℕ, zero, suc, ◌*◌, ◌<◌, ◌≤◌, ◌^◌, Bool, true, false, not, ◌&&◌, ◌||◌, ◌==◌, List, [], ◌∷◌, ◌++◌, if◌then◌else◌, ℤ, pos, negsuc, neg_ℤ, ◌+ℤ◌, refl, sym, ap, ◌∙◌, inl, inr, arith, append_assoc}
 use Rattle.std.specs.Prelude.{flat_map, Option, Some, Result, Ok, Err}
+use Rattle.std.specs.Int.RustNames.{unsigned_abs}
 use Rattle.std.proofs.lemmas.Int.{ints}
 use Rattle.std.proofs.lemmas.Bool.{and_parts, cases_Bool, eq-eqb, eqb-true, ne_eqb, true≢false, or_left, or_right, not-true}
 use Rattle.hrt_base.specs.declared.numbered.RowNo.{RowNo}
-use Rattle.pb_rows.specs.Terms.{PlainRow}
-use Rattle.pb_rows.specs.Normal.{negative_part}
+use Rattle.pb_rows.specs.Terms.{PlainRow, coef_sum}
+use Rattle.pb_rows.specs.Normal.{negative_part, net_term}
 use Rattle.pb_rows.specs.Rows.{add, times}
 use Rattle.pb_rows.specs.Formula.{NumberedRow, row_of}
-use Rattle.pb_rows.proofs.Coefs.{HasNets, add-coefs, coef_row, minus_sum}
+use Rattle.pb_rows.proofs.Coefs.{HasNets, add-coefs, coef_row, coef_terms, minus_sum}
+use Rattle.pb_rows.proofs.Order.{coef_sum-append}
 use Rattle.rank_tables.specs.Numbers.{is_distinct, is_in}
 use Rattle.proof_lines.specs.declared.line.PolStep.{PolStep}
 use Rattle.proof_lines.specs.declared.line.PolStep.TheVariants.{Id, Times, Add}
 use Rattle.proof_rules.specs.Refusals.{Refusal, TooBig, and_then}
 use Rattle.proof_rules.specs.Pol.{fits, run_steps}
+use Rattle.proof_rules.proofs.Fits.{fits_true}
 use Rattle.derivation.specs.Deletions.{Deletions, unit_of, unit_row}
 use Rattle.pair_reduction.specs.Offers.{unit_steps}
 
@@ -63,21 +66,43 @@ abbrev pub cleared : (ℕ → Bool) → List ℕ → (ℕ → ℤ) → ℕ → �
 cleared counted [] s = s
 cleared counted (p ∷ ps) s = cleared counted ps (if counted p then cleared_at p s else s)
 
+-- ---- sizes
+
+-- no coefficient is above 20,001, whatever its sign
+abbrev pub AreSmall : (ℕ → ℤ) → Type 0
+AreSmall s = (v : ℕ) → unsigned_abs (s v) ≤ 20001
+
+term_size : (v : ℕ) (z : ℤ) → coef_sum (net_term v z) ≤ unsigned_abs z
+term_size v (pos zero) = omega arith
+term_size v (pos (suc a)) = omega arith
+term_size v (negsuc a) = omega arith
+
+part_size : (z : ℤ) → negative_part z ≤ unsigned_abs z
+part_size (pos a) = omega arith
+part_size (negsuc a) = omega arith
+
+small_sum : (n : ℕ) (s : ℕ → ℤ) → AreSmall s → coef_sum (coef_terms n s) ≤ 20001 * n
+small_sum zero s h = omega arith
+small_sum (suc n) s h = omega (arith, coef_sum-append (coef_terms n s) (net_term n (s n)), term_size n (s n), small_sum n s h, h n)
+
+pub small_minus : (n : ℕ) (s : ℕ → ℤ) → AreSmall s → minus_sum n s ≤ 20001 * n
+small_minus zero s h = omega arith
+small_minus (suc n) s h = omega (arith, part_size (s n), small_minus n s h, h n)
+
+pub small_fits : (n d : ℕ) (s : ℕ → ℤ) → n ≤ 100001 → d ≤ 2 ^ 120 → AreSmall s → fits (coef_row n s d) ≡ true
+small_fits n d s few degree h = fits_true (coef_row n s d) (record { sum = omega (arith, small_sum n s h, few); degree = degree })
+
+unit_fits : (c p : ℕ) → c ≤ 20000 → fits (times c (unit_row p)) ≡ true
+unit_fits c p most = fits_true (times c (unit_row p)) (record { sum = omega (arith, most); degree = omega (arith, most) })
+
+small_left : (b : Bool) (z : ℤ) → unsigned_abs z ≤ 20001 → unsigned_abs (if b then pos 0 else z) ≤ 20001
+small_left true z h = omega arith
+small_left false z h = h
+
 -- ---- the stack
 
--- the answer is that a row is too big, or this one
-abbrev pub TooBigOr : {A : Type 0} → Result A Refusal → Result A Refusal → Type 0
-TooBigOr answer other = (answer ≡ Err TooBig) ⊎ (answer ≡ other)
-
-pub pushed : (b : Bool) (row : PlainRow) (stack : List PlainRow) (next : List PlainRow → Result (List PlainRow) Refusal) →
-    TooBigOr (and_then (if b then Ok (row ∷ stack) else Err TooBig) next) (next (row ∷ stack))
-pushed true row stack next = inr refl
-pushed false row stack next = inl refl
-
-pub passed_on : {A : Type 0} (a b c : Result A Refusal) → TooBigOr a b → TooBigOr b c → TooBigOr a c
-passed_on a b c (inl e) k = inl e
-passed_on a b c (inr e) (inl f) = inl (e ∙ f)
-passed_on a b c (inr e) (inr f) = inr (e ∙ f)
+pub pushed : (b : Bool) (row : PlainRow) (stack : List PlainRow) (next : List PlainRow → Result (List PlainRow) Refusal) → b ≡ true → and_then (if b then Ok (row ∷ stack) else Err TooBig) next ≡ next (row ∷ stack)
+pushed b row stack next e = rw e refl
 
 module _ (vars : ℕ) (live : List NumberedRow) where
   -- a live row goes on the stack
@@ -85,16 +110,19 @@ module _ (vars : ℕ) (live : List NumberedRow) where
   id_run id row steps stack e = rw e refl
 
   -- the posts times a unit row are added
-  pub unit_run : (n c p : ℕ) (s : ℕ → ℤ) (id : RowNo) (steps : List PolStep) → row_of id.0 live ≡ Some (unit_row p) → p < n → s p ≡ pos c → ((v : ℕ) → negative_part (s v) ≡ 0) →
-      TooBigOr (run_steps vars live (Id id ∷ Times (pos c) ∷ Add ∷ steps) (coef_row n s c ∷ [])) (run_steps vars live steps (coef_row n (cleared_at p s) c ∷ []))
-  unit_run n c p s id steps e h at none =
+  pub unit_run : (n c p : ℕ) (s : ℕ → ℤ) (id : RowNo) (steps : List PolStep) → n ≤ 100001 → c ≤ 20000 → AreSmall s → row_of id.0 live ≡ Some (unit_row p) → p < n → s p ≡ pos c → ((v : ℕ) → negative_part (s v) ≡ 0) →
+      run_steps vars live (Id id ∷ Times (pos c) ∷ Add ∷ steps) (coef_row n s c ∷ []) ≡ run_steps vars live steps (coef_row n (cleared_at p s) c ∷ [])
+  unit_run n c p s id steps small most are e h at none =
+      let sum : PlainRow = add (coef_row n s c) (times c (unit_row p)) in
+      let is : sum ≡ coef_row n (cleared_at p s) c = unit_added n c p s h at none in
+      let fit : fits sum ≡ true = ap fits is ∙ small_fits n c (cleared_at p s) small (omega (arith, most)) (λ v. small_left (v == p) (s v) (are v)) in
       let first : run_steps vars live (Id id ∷ Times (pos c) ∷ Add ∷ steps) (coef_row n s c ∷ []) ≡ run_steps vars live (Times (pos c) ∷ Add ∷ steps) (unit_row p ∷ coef_row n s c ∷ []) =
       id_run id (unit_row p) (Times (pos c) ∷ Add ∷ steps) (coef_row n s c ∷ []) e in
-      let second = pushed (fits (times c (unit_row p))) (times c (unit_row p)) (coef_row n s c ∷ []) (λ next. run_steps vars live (Add ∷ steps) next) in
-      let third = pushed (fits (add (coef_row n s c) (times c (unit_row p)))) (add (coef_row n s c) (times c (unit_row p))) [] (λ next. run_steps vars live steps next) in
-      let last : run_steps vars live steps (add (coef_row n s c) (times c (unit_row p)) ∷ []) ≡ run_steps vars live steps (coef_row n (cleared_at p s) c ∷ []) =
-      ap (λ (row : PlainRow). run_steps vars live steps (row ∷ [])) (unit_added n c p s h at none) in
-      passed_on _ _ _ (inr first) (passed_on _ _ _ second (passed_on _ _ _ third (inr last)))
+      let second : run_steps vars live (Times (pos c) ∷ Add ∷ steps) (unit_row p ∷ coef_row n s c ∷ []) ≡ run_steps vars live (Add ∷ steps) (times c (unit_row p) ∷ coef_row n s c ∷ []) =
+      pushed (fits (times c (unit_row p))) (times c (unit_row p)) (coef_row n s c ∷ []) (λ next. run_steps vars live (Add ∷ steps) next) (unit_fits c p most) in
+      let third : run_steps vars live (Add ∷ steps) (times c (unit_row p) ∷ coef_row n s c ∷ []) ≡ run_steps vars live steps (add (coef_row n s c) (times c (unit_row p)) ∷ []) =
+      pushed (fits (add (coef_row n s c) (times c (unit_row p)))) (add (coef_row n s c) (times c (unit_row p))) [] (λ next. run_steps vars live steps next) fit in
+      first ∙ second ∙ third ∙ ap (λ (row : PlainRow). run_steps vars live steps (row ∷ [])) is
 
   -- ---- one pair after another
 
@@ -109,13 +137,17 @@ module _ (vars : ℕ) (live : List NumberedRow) where
     pub within : p < n
     pub coef : s p ≡ pos c
 
-  module _ (n c : ℕ) (deletions : Deletions) (counted : ℕ → Bool) where
-    one_run : (p : ℕ) (b : Bool) (s : ℕ → ℤ) (steps : List PolStep) → (b ≡ true → Clears n c deletions s p) → ((v : ℕ) → negative_part (s v) ≡ 0) →
-        TooBigOr (run_steps vars live ((if b then unit_steps c (unit_of deletions p) else []) ++ steps) (coef_row n s c ∷ [])) (run_steps vars live steps (coef_row n (if b then cleared_at p s else s) c ∷ []))
-    one_run p false s steps h none = inr refl
-    one_run p true s steps h none =
+  module _ (n c : ℕ) (small : n ≤ 100001) (most : c ≤ 20000) (deletions : Deletions) (counted : ℕ → Bool) where
+    one_run : (p : ℕ) (b : Bool) (s : ℕ → ℤ) (steps : List PolStep) → (b ≡ true → Clears n c deletions s p) → AreSmall s → ((v : ℕ) → negative_part (s v) ≡ 0) →
+        run_steps vars live ((if b then unit_steps c (unit_of deletions p) else []) ++ steps) (coef_row n s c ∷ []) ≡ run_steps vars live steps (coef_row n (if b then cleared_at p s else s) c ∷ [])
+    one_run p false s steps h are none = refl
+    one_run p true s steps h are none =
         let k = h refl in
-        passed_on _ _ _ (inr (ap (λ (o : Option RowNo). run_steps vars live (unit_steps c o ++ steps) (coef_row n s c ∷ [])) k.unit)) (unit_run n c p s k.id steps k.row k.within k.coef none)
+        ap (λ (o : Option RowNo). run_steps vars live (unit_steps c o ++ steps) (coef_row n s c ∷ [])) k.unit ∙ unit_run n c p s k.id steps small most are k.row k.within k.coef none
+
+    still_small : (b : Bool) (p v : ℕ) (s : ℕ → ℤ) → unsigned_abs (s v) ≤ 20001 → unsigned_abs ((if b then cleared_at p s else s) v) ≤ 20001
+    still_small true p v s h = small_left (v == p) (s v) h
+    still_small false p v s h = h
 
     still_none : (b : Bool) (p v : ℕ) (s : ℕ → ℤ) → negative_part (s v) ≡ 0 → negative_part ((if b then cleared_at p s else s) v) ≡ 0
     still_none true p v s h = positive_left (v == p) (s v) h
@@ -128,17 +160,16 @@ module _ (vars : ℕ) (live : List NumberedRow) where
     still_clears : (b : Bool) (p q : ℕ) (s : ℕ → ℤ) → (q ≡ p → ⊥) → Clears n c deletions s q → Clears n c deletions (if b then cleared_at p s else s) q
     still_clears b p q s other k = record { id = k.id; unit = k.unit; row = k.row; within = k.within; coef = kept_coef b p q s other ∙ k.coef }
 
-    pub all_run : (ps : List ℕ) (s : ℕ → ℤ) (steps : List PolStep) → is_distinct ps ≡ true → ((p : ℕ) → is_in p ps ≡ true → counted p ≡ true → Clears n c deletions s p) → ((v : ℕ) → negative_part (s v) ≡ 0) →
-        TooBigOr (run_steps vars live (flat_map (steps_if counted c deletions) ps ++ steps) (coef_row n s c ∷ [])) (run_steps vars live steps (coef_row n (cleared counted ps s) c ∷ []))
-    all_run [] s steps d h none = inr refl
-    all_run (p ∷ ps) s steps d h none =
+    pub all_run : (ps : List ℕ) (s : ℕ → ℤ) (steps : List PolStep) → is_distinct ps ≡ true → ((p : ℕ) → is_in p ps ≡ true → counted p ≡ true → Clears n c deletions s p) → AreSmall s → ((v : ℕ) → negative_part (s v) ≡ 0) →
+        run_steps vars live (flat_map (steps_if counted c deletions) ps ++ steps) (coef_row n s c ∷ []) ≡ run_steps vars live steps (coef_row n (cleared counted ps s) c ∷ [])
+    all_run [] s steps d h are none = refl
+    all_run (p ∷ ps) s steps d h are none =
         let parts = and_parts (not (is_in p ps)) (is_distinct ps) d in
-        let next : ℕ → ℤ = if counted p then cleared_at p s else s in
-        passed_on _ _ _ (inr (ap (λ (all : List PolStep). run_steps vars live all (coef_row n s c ∷ [])) (append_assoc (steps_if counted c deletions p) (flat_map (steps_if counted c deletions) ps) steps)))
-        (passed_on _ _ _ (one_run p (counted p) s (flat_map (steps_if counted c deletions) ps ++ steps) (h p (or_left (p == p) (is_in p ps) (eq-eqb p p refl))) none)
-        (all_run ps (if counted p then cleared_at p s else s) steps parts.1
+        ap (λ (all : List PolStep). run_steps vars live all (coef_row n s c ∷ [])) (append_assoc (steps_if counted c deletions p) (flat_map (steps_if counted c deletions) ps) steps)
+        ∙ one_run p (counted p) s (flat_map (steps_if counted c deletions) ps ++ steps) (h p (or_left (p == p) (is_in p ps) (eq-eqb p p refl))) are none
+        ∙ all_run ps (if counted p then cleared_at p s else s) steps parts.1
         (λ q i k. still_clears (counted p) p q s (λ e. true≢false (sym (ap (λ (z : ℕ). is_in z ps) (sym e) ∙ i) ∙ not-true (is_in p ps) parts.0)) (h q (or_right (p == q) (is_in q ps) i) k))
-        (λ v. still_none (counted p) p v s (none v))))
+        (λ v. still_small (counted p) p v s (are v)) (λ v. still_none (counted p) p v s (none v))
 
 -- ---- what is left
 

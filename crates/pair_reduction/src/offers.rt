@@ -87,7 +87,7 @@ fn offer_steps(
     Ok(steps)
 }
 
-/// Makes the row of an offer. It is never too big: there are at most 100,000 pairs and 20,000 posts.
+/// Makes the row of an offer.
 pub(crate) fn offer(
     alloc: Global,
     model: &Model,
@@ -114,10 +114,8 @@ pub(crate) fn offer(
     let _limits = (inst.pairs(), inst.residents(), inst.capacity(hospital));
     let _numbers = (model.pair_row(q), deriv.next());
     let steps = offer_steps(alloc, model, gone, q)?;
-    match deriv.pol(alloc, model, &steps) {
-        Ok(id) => Ok(id),
-        Err(_) => Err(NoMemory),
-    }
+    let id = deriv.pol_that_fits(alloc, model, &steps)?;
+    Ok(id)
 }
 
 /// Makes the rows of so many offers to the hospital of p as it has posts, from residents that it strictly prefers.

@@ -3,8 +3,8 @@
 # takes with its lines, the making of the model and of the derivation apart, beside `steps`: the sum, over pairs, of the lengths of
 # the two lists in which a pair stands. It shows that the seconds grow no faster than that sum in these shapes.
 # The lists are drawn, with no ties. So many pairs in 1,000 lists are within the limit on terms only where most hospitals have no posts:
-# one in `every` has them. In the last two each hospital refuses a part of its residents by offers of the others, as many as posts, made
-# once for a visit. In no shape is a hospital with many posts visited many times. No command does this alone, so a program is built
+# one in `every` has them. In the last two each hospital refuses a part of its residents by offers of the others, as many as posts, each
+# made once. In no shape is a hospital with many posts visited many times. No command does this alone, so a program is built
 # around the library in a copy of the crates that it stands on, which takes some minutes at first.
 . "$(dirname "$0")/common.sh"
 mkdir -p "$work/crates/reducing/src"

@@ -190,7 +190,7 @@ fn lines_of_no_posts(rt: HostRuntime) -> Result<(), Fail> {
 // The resident of the first pair ranks nothing else as high, so the third pair is deleted by its offer; and the first pair is sure
 // of its post, so the second is.
 const EACH_RULE: &[u8] =
-    b"pseudo-Boolean proof version 2.0\nf 7\npol 5 3 +\nrup +1 ~x3 >= 1 ;\n* note unit 9\ndel id 8\nrup +1 ~x2 >= 1 ;\n* note unit 10\noutput NONE\nconclusion NONE\nend pseudo-Boolean proof\n";
+    b"pseudo-Boolean proof version 2.0\nf 7\npol 5 3 +\nrup +1 ~x3 >= 1 ;\n* note unit 9\nrup +1 ~x2 >= 1 ;\n* note unit 10\ndel id 8\noutput NONE\nconclusion NONE\nend pseudo-Boolean proof\n";
 
 #[test]
 fn lines_of_each_rule(rt: HostRuntime) -> Result<(), Fail> {
@@ -201,6 +201,23 @@ fn lines_of_each_rule(rt: HostRuntime) -> Result<(), Fail> {
     )?;
     let lines = reduced(alloc, &inst)?.1;
     assert_eq!(rt; lines.as_slice(), EACH_RULE);
+    Ok(())
+}
+
+// Of three residents and a hospital with one post: the offer of its first pair in order of rank, which deletes both others, is the
+// only row that is forgotten.
+const ONE_OFFER: &[u8] =
+    b"pseudo-Boolean proof version 2.0\nf 7\npol 7 4 +\nrup +1 ~x2 >= 1 ;\n* note unit 9\nrup +1 ~x1 >= 1 ;\n* note unit 10\ndel id 8\noutput NONE\nconclusion NONE\nend pseudo-Boolean proof\n";
+
+#[test]
+fn lines_of_one_offer(rt: HostRuntime) -> Result<(), Fail> {
+    let alloc = rt.alloc();
+    let inst = instance_in(
+        alloc,
+        b"hrt 1\nresident a: x\nresident b: x\nresident c: x\nhospital x 1: c b a\nend\n",
+    )?;
+    let lines = reduced(alloc, &inst)?.1;
+    assert_eq!(rt; lines.as_slice(), ONE_OFFER);
     Ok(())
 }
 

@@ -6,13 +6,11 @@ use Rattle.std.proofs.lemmas.Grind.{flat_map-append}
 use Rattle.std.proofs.lemmas.List.{append-nil, map-append}
 use Rattle.pb_rows.specs.Terms.{PlainRow}
 use Rattle.pb_rows.specs.Formula.{NumberedRow, is_numbered}
-use Rattle.rank_tables.specs.Numbers.{is_in}
 use Rattle.proof_lines.specs.declared.line.Line.{Line}
 use Rattle.proof_lines.specs.declared.note.Note.{Note}
 use Rattle.proof_lines.specs.declared.note.Note.TheVariants.{Unit as UnitRow}
 use Rattle.proof_lines.specs.Spelling.{row_no}
 use Rattle.proof_lines.specs.Texts.{line_text, note_text}
-use Rattle.proof_rules.proofs.Held.{is_in-append}
 use Rattle.derivation.specs.Derived.{Derived}
 use Rattle.derivation.specs.Steps.{with_new_row}
 use Rattle.pair_reduction.specs.Added.{AddsNotes, ALine, ANote, LeavesOnly, Piece, notes_among, piece_text, unit_notes}
@@ -46,14 +44,6 @@ units_further xs ys a b c g h =
     subst (λ (ns : List Note). AddsNotes ns a c) (sym (map-append (λ n. UnitRow (row_no n)) xs ys)) (adds_further (unit_notes xs) (unit_notes ys) a b c g h)
 
 -- ---- the live rows
-
-pub only_none : (d : Derived) → LeavesOnly [] d d
-only_none d n live out = live
-
-pub only_further : (xs ys : List ℕ) (a b c : Derived) → LeavesOnly xs a b → LeavesOnly ys b c → LeavesOnly (xs ++ ys) a c
-only_further xs ys a b c g h n live out =
-    let apart = or_parts (is_in n xs) (is_in n ys) (sym (is_in-append n xs ys) ∙ out) in
-    g n (h n live apart.1) apart.0
 
 before_last : (n : ℕ) (live : List NumberedRow) (last : NumberedRow) → (last.number == n) ≡ false → is_numbered n (live ++ last ∷ []) ≡ true → is_numbered n live ≡ true
 before_last n [] last other h = elim (or_cases (last.number == n) false h) [

@@ -20,7 +20,7 @@ use Rattle.derivation.specs.Derived.{Derived, StaysValid}
 use Rattle.derivation.specs.Steps.{IsWritable, Takes}
 use Rattle.pair_reduction.specs.Reduced.{CanForget, Forgets}
 use Rattle.pair_reduction.proofs.Added.{adds_line, adds_nothing}
-use Rattle.pair_reduction.proofs.Offering.{goes_nowhere, numbered_row}
+use Rattle.pair_reduction.proofs.GoingOn.{goes_nowhere, numbered_row}
 use Rattle.proof_rules.proofs.Numbers.{live_within}
 
 -- ---- rows by number
@@ -100,7 +100,7 @@ some_made : (ids : List RowNo) → 0 < length ids → list_all is_made_id ids �
 some_made [] l h = absurd (omega arith)
 some_made (x ∷ ids) l h = h
 
-pub del_writable : (ids : List RowNo) → 0 < length ids → length ids ≤ 20000 → ((n : ℕ) → is_in n (row_numbers ids) ≡ true → (1 ≤ n) × (n < 10 ^ 18)) → IsWritable (Del ids)
+pub del_writable : (ids : List RowNo) → 0 < length ids → length ids ≤ 100000 → ((n : ℕ) → is_in n (row_numbers ids) ≡ true → (1 ≤ n) × (n < 10 ^ 18)) → IsWritable (Del ids)
 del_writable ids some few h = record {
   made = some_made ids some (ids_made ids h);
   small = refl;

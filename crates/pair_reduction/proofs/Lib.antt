@@ -14,9 +14,11 @@ mod OfferRow
 mod Writable
 mod OfferMade
 mod UnitMade
-mod Offering
 mod Implied
+mod GoingOn
 mod Forgets
 mod Deleting
 mod Reducing
 mod Serving
+mod Offering
+mod Ending

@@ -1,11 +1,12 @@
 -- Pairs are deleted one after another.
-use Rattle.std.proofs.Common.{◌≡◌, ◌≢◌, ℕ, zero, suc, ◌+◌, ◌-◌, ◌*◌, ◌<◌, ◌≤◌, ◌^◌, true, false, ◌||◌, ◌==◌, List, [], ◌∷◌, ◌++◌, if◌then◌else◌, length, get_or, set, refl, sym, ap, ◌∙◌, subst, inl, inr, arith, append_assoc, length-set, get_or-set_same, get_or-set_other}
+use Rattle.std.proofs.Common.{◌≡◌, ◌≢◌, ℕ, zero, suc, ◌+◌, ◌-◌, ◌<◌, ◌≤◌, true, false, ◌||◌, ◌==◌, List, [], ◌∷◌, ◌++◌, if◌then◌else◌, length, get_or, set, refl, sym, ap, ◌∙◌, subst, inl, inr, arith, append_assoc, length-set, get_or-set_same, get_or-set_other}
 use Rattle.std.specs.Prelude.{Option, Some, None, IfSome, is_some, slice_set, replicate}
-use Rattle.std.proofs.lemmas.Bool.{cases_eq, eq-eqb, eqb-true, or_cases, or_left, or_right, true≢false}
+use Rattle.std.proofs.lemmas.Bool.{cases_eq, eq-eqb, eqb-true, or_cases, or_left, or_parts, or_right, true≢false}
 use Rattle.std.proofs.lemmas.List.{append-nil, length-append, length-replicate}
 use Rattle.std.proofs.lemmas.List.Folds.{sum_by-replicate}
 use Rattle.std.proofs.lemmas.List.Sums.{count_by-le-length, sum_by-set}
 use Rattle.hrt_base.specs.declared.numbered.RowNo.{RowNo}
+use Rattle.pb_rows.specs.Terms.{PlainRow}
 use Rattle.pb_rows.specs.Formula.{NumberedRow, row_of}
 use Rattle.rank_tables.specs.Numbers.{is_in}
 use Rattle.rank_tables.specs.Instance.{Lists, pair_count}
@@ -13,16 +14,21 @@ use Rattle.rank_tables.specs.Tables.{IsPairNo}
 use Rattle.stability_model.specs.Gone.{AreGone, Gone, rule_a, rule_b}
 use Rattle.stability_model.proofs.GoneInNone.{gone_in_none}
 use Rattle.stability_model.proofs.GoneSteps.{gone_exact, gone_step}
+use Rattle.proof_lines.specs.declared.line.Line.{Line}
 use Rattle.proof_lines.specs.Spelling.{row_no}
-use Rattle.proof_rules.specs.Held.{keeping}
+use Rattle.proof_lines.specs.Texts.{line_text}
+use Rattle.proof_rules.specs.Held.{keeping, row_numbers}
+use Rattle.proof_rules.specs.States.{IsInOrder}
 use Rattle.proof_rules.proofs.Held.{is_in-append}
 use Rattle.derivation.specs.Deletions.{AreUnitRows, Deletions, deleted_count, is_deleted, unit_of, unit_row}
-use Rattle.derivation.specs.Derived.{Derived}
+use Rattle.derivation.specs.Derived.{Derived, StaysValid}
 use Rattle.derivation.specs.Ready.{IsReady}
+use Rattle.derivation.specs.Steps.{with_new_row}
+use Rattle.derivation.proofs.Readiness.{ready_row, row_last, row_numbered}
 use Rattle.pair_reduction.specs.Known.{IsOneMore}
-use Rattle.pair_reduction.specs.Reduced.{Adds, AreInNone, CanReduce, Deletes, HasRoom, HoldsUnits, IsClosedTo, MakesOnes, Reduces}
-use Rattle.pair_reduction.proofs.Added.{adds_nothing, only_further, only_none, units_further}
-use Rattle.pair_reduction.proofs.Offering.{goes_further, goes_nowhere, kept_further, units_kept}
+use Rattle.pair_reduction.specs.Reduced.{AreInNone, CanReduce, Deletes, GoesOn, HasRoom, IsClosedTo, KeepsLive, Reduces}
+use Rattle.pair_reduction.proofs.Added.{adds_line, adds_nothing, only_row, units_further}
+use Rattle.pair_reduction.proofs.GoingOn.{goes_further, goes_nowhere, goes_row, kept_further, kept_row, made_further, made_none, numbers_in, units_kept}
 
 -- ---- the map
 
@@ -93,7 +99,7 @@ units_with live before p q id first last units row = elim (cases_eq q p) [
 ]
 
 pub reduces_one : (lists : Lists) (old new : Derived) (before after : Deletions) (p : ℕ) → CanReduce lists old before → IsPairNo lists p → unit_of before p ≡ None → (rule_a lists (is_deleted before) p || rule_b lists (is_deleted before) p) ≡ true →
-    Deletes old new before after p → new.state.next ≤ old.state.next + 20001 → Reduces lists old new before after
+    Deletes old new before after p → new.state.next ≤ old.state.next + 1 → Reduces lists old new before after []
 reduces_one lists old new before after p can p_is absent rule d few =
     let first : 1 ≤ p = p_is.0 in
     let last : p ≤ length before = omega (arith, can.pairs, p_is.1) in
@@ -117,10 +123,12 @@ reduces_one lists old new before after p can p_is absent rule d few =
       few = omega (arith, few, count);
       stays = λ q other e. ap (λ (m : Deletions). unit_of m q) marked ∙ grown_unit before p q id other first last absent e;
       ids = d.id ∷ [];
-      later = λ n i. let e = one_of n d.id i in omega (arith, d.later);
+      later = λ n i. let e = one_of n d.id i in let l = d.later in (omega (arith, l.0), omega (arith, l.1));
       held = d.held;
       notes = d.notes;
-      only = d.only;
+      offers = made_none old new;
+      apart = λ n i j. true≢false (sym j);
+      only = λ n live out none. d.only n live out;
       all = λ q other e. elim (cases_eq q p) [
         | inl f ↦ inr (here_is d.id other.0 (some_number d.id other (sym here ∙ ap (unit_of after) (sym f) ∙ e)))
         | inr differs ↦ inl (sym (marked_other before p id first last q differs) ∙ ap (λ (m : Deletions). unit_of m q) (sym marked) ∙ e)
@@ -131,7 +139,7 @@ reduces_one lists old new before after p can p_is absent rule d few =
 
 -- ---- none and several
 
-pub reduces_none : (lists : Lists) (d : Derived) (deletions : Deletions) → CanReduce lists d deletions → Reduces lists d d deletions deletions
+pub reduces_none : (lists : Lists) (d : Derived) (deletions : Deletions) → CanReduce lists d deletions → Reduces lists d d deletions deletions []
 reduces_none lists d deletions can = record {
   can = can;
   goes_on = goes_nowhere d;
@@ -142,27 +150,81 @@ reduces_none lists d deletions can = record {
   later = λ n i. absurd (true≢false (sym i));
   held = ap (λ (ns : List ℕ). record d.held { kept = ns }) (sym (append-nil d.held.kept));
   notes = adds_nothing d;
-  only = only_none d;
+  offers = made_none d d;
+  apart = λ n i j. true≢false (sym j);
+  only = λ n live out none. live;
   all = λ p id e. inl e;
   count = omega arith;
   each = λ n i. absurd (true≢false (sym i));
 }
 
-pub reduces_more : (lists : Lists) (a b c : Derived) (x y z : Deletions) → Reduces lists a b x y → Reduces lists b c y z → Reduces lists a c x z
-reduces_more lists a b c x y z g h = record {
+-- an offer was made
+pub reduces_offer : (lists : Lists) (old new : Derived) (deletions : Deletions) (row : PlainRow) (line : Line) (id : RowNo) → CanReduce lists old deletions → IsInOrder old.state → id.0 ≡ old.state.next → new ≡ with_new_row row (line_text line) old → StaysValid old new →
+    Reduces lists old new deletions deletions (id ∷ [])
+reduces_offer lists old new deletions row line id can order number e valid =
+    let next : new.state.next ≡ old.state.next + 1 = ap (λ (d : Derived). d.state.next) e in
+    let goes : GoesOn old new = goes_row row (line_text line) old new e valid in
+    let kept : KeepsLive old new = kept_row row (line_text line) old new e in
+    let there : row_of old.state.next new.state.live ≡ Some row = ap (λ (d : Derived). row_of old.state.next d.state.live) e ∙ row_last old.state.next row old.state.live order in
+    record {
+      can = record {
+        same = can.same ∙ sym goes.lists;
+        ready = subst IsReady (sym e) (ready_row row (line_text line) old can.ready);
+        units = units_kept old new deletions kept can.units;
+        pairs = can.pairs;
+        gone = can.gone;
+      };
+      goes_on = goes;
+      kept = kept;
+      few = omega (arith, next);
+      stays = λ p other f. f;
+      ids = [];
+      later = λ n i. absurd (true≢false (sym i));
+      held = ap (λ (d : Derived). d.held) e ∙ ap (λ (ns : List ℕ). record old.held { kept = ns }) (sym (append-nil old.held.kept));
+      notes = adds_line line old new (ap (λ (d : Derived). d.pending) e);
+      offers = record {
+        distinct = refl;
+        each = λ n i.
+            let same : n ≡ id.0 = one_of n id.0 i in
+            (omega (arith, number), omega (arith, number, next), row_numbered n row new.state.live (ap (λ (k : ℕ). row_of k new.state.live) (same ∙ number) ∙ there));
+      };
+      apart = λ n i j. true≢false (sym i);
+      only = λ n live out none. only_row row (line_text line) id.0 old new number e n live none;
+      all = λ p other f. inl f;
+      count = omega arith;
+      each = λ n i. absurd (true≢false (sym i));
+    }
+
+pub reduces_more : (lists : Lists) (a b c : Derived) (x y z : Deletions) (xs ys : List RowNo) → Reduces lists a b x y xs → Reduces lists b c y z ys → Reduces lists a c x z (xs ++ ys)
+reduces_more lists a b c x y z xs ys g h = record {
   can = h.can;
   goes_on = goes_further a b c g.goes_on h.goes_on;
   kept = kept_further a b c g.kept h.kept;
-  few = omega (arith, g.few, h.few);
+  few = omega (arith, g.few, h.few, length-append xs ys);
   stays = λ p id e. h.stays p id (g.stays p id e);
   ids = g.ids ++ h.ids;
   later = λ n i. elim (or_cases (is_in n g.ids) (is_in n h.ids) (sym (is_in-append n g.ids h.ids) ∙ i)) [
-    | inl e ↦ g.later n e
-    | inr e ↦ omega (arith, g.goes_on.later, h.later n e)
+    | inl e ↦ let one = g.later n e in (one.0, omega (arith, one.1, h.goes_on.later))
+    | inr e ↦ let two = h.later n e in (omega (arith, g.goes_on.later, two.0), two.1)
   ];
   held = h.held ∙ ap (keeping h.ids) g.held ∙ ap (λ (ns : List ℕ). record a.held { kept = ns }) (append_assoc a.held.kept g.ids h.ids);
   notes = units_further g.ids h.ids a b c g.notes h.notes;
-  only = only_further g.ids h.ids a b c g.only h.only;
+  offers = made_further a b c xs ys g.goes_on h.goes_on h.kept g.offers h.offers;
+  apart = λ n i j.
+      elim (or_cases (is_in n g.ids) (is_in n h.ids) (sym (is_in-append n g.ids h.ids) ∙ i)) [
+        | inl e ↦ elim (or_cases (is_in n (row_numbers xs)) (is_in n (row_numbers ys)) (sym (numbers_in n xs ys) ∙ j)) [
+          | inl f ↦ g.apart n e f
+          | inr f ↦ let one = g.later n e in let two = h.offers.each n f in omega (arith, one.1, two.0)
+        ]
+        | inr e ↦ elim (or_cases (is_in n (row_numbers xs)) (is_in n (row_numbers ys)) (sym (numbers_in n xs ys) ∙ j)) [
+          | inl f ↦ let one = g.offers.each n f in let two = h.later n e in omega (arith, one.1, two.0)
+          | inr f ↦ h.apart n e f
+        ]
+      ];
+  only = λ n live out none.
+      let units = or_parts (is_in n g.ids) (is_in n h.ids) (sym (is_in-append n g.ids h.ids) ∙ out) in
+      let others = or_parts (is_in n (row_numbers xs)) (is_in n (row_numbers ys)) (sym (numbers_in n xs ys) ∙ none) in
+      g.only n (h.only n live units.1 others.1) units.0 others.0;
   all = λ p id e.
       elim (h.all p id e) [
         | inl f ↦ elim (g.all p id f) [
@@ -202,28 +264,14 @@ are_gone lists at d deletions same can closed = subst (λ (l : Lists). AreGone l
 pub are_in_none : (lists at : Lists) (d : Derived) (deletions : Deletions) → lists ≡ at → CanReduce lists d deletions → AreInNone at deletions
 are_in_none lists at d deletions same can = subst (λ (l : Lists). AreInNone l deletions) same (λ m p s e. gone_in_none lists m p s (can.gone p e))
 
-none_counted : (n : ℕ) → deleted_count (replicate n None) ≡ 0
+pub none_counted : (n : ℕ) → deleted_count (replicate n None) ≡ 0
 none_counted n = let e = sum_by-replicate (λ (o : Option RowNo). if is_some o then 1 else 0) n None in omega (arith, e)
 
-none_at : (n p : ℕ) → unit_of (replicate n None) p ≡ None
+pub none_at : (n p : ℕ) → unit_of (replicate n None) p ≡ None
 none_at n zero = refl
 none_at zero (suc k) = refl
 none_at (suc n) (suc zero) = refl
 none_at (suc n) (suc (suc k)) = none_at n (suc k)
-
-pub holds_units : (lists : Lists) (old new : Derived) (deletions : Deletions) (n : ℕ) → Reduces lists old new (replicate n None) deletions → HoldsUnits old new deletions
-holds_units lists old new deletions n r = record {
-  ids = r.ids;
-  held = r.held;
-  notes = r.notes;
-  only = r.only;
-  count = omega (arith, r.count, none_counted n);
-  each = r.each;
-  all = λ p id e. elim (r.all p id e) [
-    | inl f ↦ let wrong : ◌≡◌ {A = Option RowNo} None (Some id) = sym (none_at n p) ∙ f in absurd (cc)
-    | inr i ↦ i
-  ];
-}
 
 -- ---- the start
 
@@ -240,37 +288,21 @@ can_first lists d same ready = record {
 }
 
 pub reduces_first : (lists at : Lists) (d : Derived) (n : ℕ) (deletions : Deletions) → lists ≡ d.lists → at ≡ d.lists → IsReady d → n ≡ pair_count at → deletions ≡ replicate n None →
-    Reduces lists d d (replicate (pair_count lists) None) deletions
+    Reduces lists d d (replicate (pair_count lists) None) deletions []
 reduces_first lists at d n deletions same again ready count is =
     let all : deletions ≡ replicate (pair_count lists) None = is ∙ ap (λ (k : ℕ). replicate k None) (count ∙ ap pair_count (again ∙ sym same)) in
-    subst (Reduces lists d d (replicate (pair_count lists) None)) (sym all) (reduces_none lists d (replicate (pair_count lists) None) (can_first lists d same ready))
+    subst (λ (m : Deletions). Reduces lists d d (replicate (pair_count lists) None) m []) (sym all) (reduces_none lists d (replicate (pair_count lists) None) (can_first lists d same ready))
 
 -- ---- the rows that can still be made
 
-pub room_first : (lists : Lists) (d : Derived) → lists ≡ d.lists → d.state.next + 20001 * pair_count d.lists ≤ 10 ^ 18 → HasRoom 20001 lists d (replicate (pair_count lists) None)
-room_first lists d same room = let counts : pair_count lists ≡ pair_count d.lists = ap pair_count same in omega (arith, room, counts, none_counted (pair_count lists))
+pub room_for_ones : (lists : Lists) (old new : Derived) (before after : Deletions) → Reduces lists old new before after [] → HasRoom 0 lists old before → HasRoom 0 lists new after
+room_for_ones lists old new before after r room = omega (arith, room, r.few, r.goes_on.later, r.can.pairs, count_by-le-length is_some after)
 
-pub room_left : (lists : Lists) (old new : Derived) (before after : Deletions) → Reduces lists old new before after → HasRoom 20001 lists old before → HasRoom 20001 lists new after
-room_left lists old new before after r room = omega (arith, room, r.few, r.can.pairs, count_by-le-length is_some after)
-
-pub room_for_ones : (lists : Lists) (old new : Derived) (before after : Deletions) → Reduces lists old new before after → MakesOnes old new before after → HasRoom 1 lists old before → HasRoom 1 lists new after
-room_for_ones lists old new before after r ones room = omega (arith, room, ones, r.goes_on.later, r.can.pairs, count_by-le-length is_some after)
-
-pub ones_further : (lists : Lists) (old now : Derived) (before between : Deletions) (n : ℕ) → Reduces lists old now before between → MakesOnes old now before between → n ≤ now.state.next + (pair_count lists - deleted_count between) → n ≤ old.state.next + (pair_count lists - deleted_count before)
-ones_further lists old now before between n r ones few = omega (arith, few, ones, r.goes_on.later, r.can.pairs, count_by-le-length is_some between)
-
--- rows that are added leave more to be deleted
-pub can_added : (lists : Lists) (old new : Derived) (deletions : Deletions) (rows : ℕ) → CanReduce lists old deletions → Adds old new rows → CanReduce lists new deletions
-can_added lists old new deletions rows can adds = record {
-  same = can.same ∙ sym adds.goes_on.lists;
-  ready = adds.ready;
-  units = units_kept old new deletions adds.kept can.units;
-  pairs = can.pairs;
-  gone = can.gone;
-}
+pub ones_further : (lists : Lists) (old now : Derived) (before between : Deletions) (n : ℕ) → Reduces lists old now before between [] → n ≤ now.state.next + (pair_count lists - deleted_count between) → n ≤ old.state.next + (pair_count lists - deleted_count before)
+ones_further lists old now before between n r few = omega (arith, few, r.few, r.goes_on.later, r.can.pairs, count_by-le-length is_some between)
 
 -- one at least is deleted, where a pair is that wasn't
-pub some_deleted : (lists : Lists) (old new : Derived) (before after : Deletions) (p : ℕ) → Reduces lists old new before after → is_deleted before p ≡ false → is_deleted after p ≡ true → deleted_count before < deleted_count after
+pub some_deleted : (lists : Lists) (old new : Derived) (before after : Deletions) (p : ℕ) → Reduces lists old new before after [] → is_deleted before p ≡ false → is_deleted after p ≡ true → deleted_count before < deleted_count after
 some_deleted lists old new before after p r absent there = by r.ids refl (unit_of after p) refl there
   where
     by : (ids : List ℕ) → r.ids ≡ ids → (o : Option RowNo) → unit_of after p ≡ o → is_some o ≡ true → deleted_count before < deleted_count after

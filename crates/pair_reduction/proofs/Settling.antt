@@ -235,7 +235,7 @@ gains_rests side lists start old new n within waits rests pays =
 
 -- ---- the start
 
-flag_none : (n k : ℕ) → get_or (replicate n false) k false ≡ false
+pub flag_none : (n k : ℕ) → get_or (replicate n false) k false ≡ false
 flag_none zero k = refl
 flag_none (suc n) zero = refl
 flag_none (suc n) (suc k) = flag_none n k

@@ -1,6 +1,7 @@
 pub mod Added
 pub mod Flags
 pub mod Known
+pub mod Offered
 pub mod Offers
 pub mod Ranks
 pub mod Reduced

@@ -6,7 +6,7 @@ use Rattle.pb_rows.specs.Formula.{NumberedRow, is_numbered, row_of}
 use Rattle.rank_tables.specs.Numbers.{is_distinct, is_in}
 use Rattle.rank_tables.specs.Instance.{Lists, capacity_of, pair_at, pair_count, pairs_of_hospital, rank_by_hospital}
 use Rattle.rank_tables.specs.Tables.{IsPairNo}
-use Rattle.stability_model.specs.Gone.{Gone, has_only, rule_a, rule_b}
+use Rattle.stability_model.specs.Gone.{Gone, rule_a, rule_b}
 use Rattle.rank_tables.specs.Stability.{is_weakly_stable}
 use Rattle.proof_lines.specs.declared.line.Line.TheVariants.{Rup}
 use Rattle.proof_lines.specs.declared.note.Note.TheVariants.{Unit as UnitRow}
@@ -65,29 +65,10 @@ StopsAtUnit p old new = (new ≡ old) ⊎ (new ≡ with_unit_row p old)
 
 -- ---- rows that are made for a while
 
--- so many rows were made, and nothing else was done
-pub record Adds (old new : Derived) (rows : ℕ) : Type 0 where
-  pub goes_on : GoesOn old new
-  pub kept : KeepsLive old new
-  pub ready : IsReady new
-  pub held : new.held ≡ old.held
-  pub notes : AddsNotes [] old new
-  pub next : new.state.next ≡ old.state.next + rows
-
--- a resident that the hospital of p strictly prefers and that has nothing else
-abbrev pub is_offering : Lists → Deletions → ℕ → ℕ → Bool
-is_offering lists deletions p q = nat_lt (rank_by_hospital lists q) (rank_by_hospital lists p) && has_only lists (is_deleted deletions) q
-
--- the numbers of the rows that were made: each once, each new and live, and no other is
+-- the numbers of rows that were made: each once, each new and live
 pub record AreMade (old new : Derived) (ids : List RowNo) : Type 0 where
   pub distinct : is_distinct (row_numbers ids) ≡ true
-  pub each : (n : ℕ) → is_in n (row_numbers ids) ≡ true → (old.state.next ≤ n) × (is_numbered n new.state.live ≡ true)
-  pub only : LeavesOnly (row_numbers ids) old new
-
--- so many of the pairs are offering, and the row of each of these offers is live
-pub record HaveOffers (lists : Lists) (deletions : Deletions) (p : ℕ) (qs : List ℕ) (live : List NumberedRow) (count : ℕ) : Type 0 where
-  pub counts : count ≡ count_by (is_offering lists deletions p) qs
-  pub rows : (q : ℕ) → is_in q qs ≡ true → is_offering lists deletions p q ≡ true → (n : ℕ) × (row_of n live ≡ Some (offer_row lists q))
+  pub each : (n : ℕ) → is_in n (row_numbers ids) ≡ true → (old.state.next ≤ n) × (n + 1 ≤ new.state.next) × (is_numbered n new.state.live ≡ true)
 
 -- some pairs of the hospital of p, as many as it has posts, are offering, and the rows of their offers are live
 pub record HasOffers (lists : Lists) (p : ℕ) (live : List NumberedRow) : Type 0 where
@@ -114,7 +95,7 @@ pub record Forgets (ids : List RowNo) (old new : Derived) : Type 0 where
 -- pair p was deleted: its row is live, is marked and is held, and nothing else is left of what was made
 pub record Deletes (old new : Derived) (before after : Deletions) (p : ℕ) : Type 0 where
   pub id : ℕ
-  pub later : old.state.next ≤ id
+  pub later : (old.state.next ≤ id) × (id + 1 ≤ new.state.next)
   pub goes_on : GoesOn old new
   pub kept : KeepsLive old new
   pub ready : IsReady new
@@ -134,26 +115,25 @@ pub record CanReduce (lists : Lists) (d : Derived) (deletions : Deletions) : Typ
   pub pairs : length deletions ≡ pair_count lists
   pub gone : (p : ℕ) → is_deleted deletions p ≡ true → Gone lists p
 
--- so many rows can be made for each pair that is left
+-- a row can be made for each pair that is left, and so many more
 abbrev pub HasRoom : ℕ → Lists → Derived → Deletions → Type 0
-HasRoom rows lists d deletions = d.state.next + rows * (pair_count lists - deleted_count deletions) ≤ 10 ^ 18
+HasRoom more lists d deletions = d.state.next + (pair_count lists - deleted_count deletions) + more ≤ 10 ^ 18
 
--- no more rows were made than pairs deleted
-abbrev pub MakesOnes : Derived → Derived → Deletions → Deletions → Type 0
-MakesOnes old new before after = new.state.next + deleted_count before ≤ old.state.next + deleted_count after
-
--- some pairs were deleted: the rows of those are held, one for each, and those from before are as they were
-pub record Reduces (lists : Lists) (old new : Derived) (before after : Deletions) : Type 0 where
+-- Some pairs were deleted: the rows of those are held, one for each, and those from before are as they were. Some offers were made
+-- for it: their rows are live too, and no other row is that wasn't live before.
+pub record Reduces (lists : Lists) (old new : Derived) (before after : Deletions) (made : List RowNo) : Type 0 where
   pub can : CanReduce lists new after
   pub goes_on : GoesOn old new
   pub kept : KeepsLive old new
-  pub few : new.state.next + 20001 * deleted_count before ≤ old.state.next + 20001 * deleted_count after
+  pub few : new.state.next + deleted_count before ≤ old.state.next + deleted_count after + length made
   pub stays : (p : ℕ) (id : RowNo) → unit_of before p ≡ Some id → unit_of after p ≡ Some id
   pub ids : List ℕ
-  pub later : (n : ℕ) → is_in n ids ≡ true → old.state.next ≤ n
+  pub later : (n : ℕ) → is_in n ids ≡ true → (old.state.next ≤ n) × (n + 1 ≤ new.state.next)
   pub held : new.held ≡ keeping ids old.held
   pub notes : AddsNotes (unit_notes ids) old new
-  pub only : LeavesOnly ids old new
+  pub offers : AreMade old new made
+  pub apart : (n : ℕ) → is_in n ids ≡ true → is_in n (row_numbers made) ≡ true → ⊥
+  pub only : (n : ℕ) → is_numbered n new.state.live ≡ true → is_in n ids ≡ false → is_in n (row_numbers made) ≡ false → is_numbered n old.state.live ≡ true
   pub count : length ids + deleted_count before ≡ deleted_count after
   pub each : (n : ℕ) → is_in n ids ≡ true → (p : ℕ) × (unit_of after p ≡ Some (row_no n))
   pub all : (p : ℕ) (id : RowNo) → unit_of after p ≡ Some id → (unit_of before p ≡ Some id) ⊎ (is_in id.0 ids ≡ true)

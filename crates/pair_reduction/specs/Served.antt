@@ -32,6 +32,7 @@ pub record IsFirst (side : Side) (lists : Lists) (known : Known) (n : ℕ) (ps :
   pub due : IsDue side lists known n p
   pub least : (w : ℕ) → is_in w ps ≡ true → IsDue side lists known n w → rank_on side lists p ≤ rank_on side lists w
 
+-- the first of some pairs to be deleted, where one is to be
 abbrev pub FirstOf : Side → Lists → Known → ℕ → List ℕ → Option PairNo → Type 0
 FirstOf side lists known n ps None = (w : ℕ) → is_in w ps ≡ true → IsDue side lists known n w → ⊥
 FirstOf side lists known n ps (Some p) = IsFirst side lists known n ps p.0

@@ -1,13 +1,17 @@
 // Pairs that a rule shows are deleted.
-ghost use Rattle.std.specs.Prelude.{◌≡◌, ◌≤◌, ◌+◌, ◌<◌, ◌^◌, IfOk, None, OnErr, OnOk, length, true, false};
+ghost use Rattle.std.specs.Prelude.{◌≡◌, ◌≤◌, ◌+◌, ◌<◌, ◌^◌, [], None, OnErr, OnOk, length, true, false};
 ghost use Rattle.rank_tables.specs.Tables.{IsPairNo};
 ghost use Rattle.derivation.specs.Deletions.{is_deleted};
-ghost use Rattle.pair_reduction.specs.Known.{IsOneMore};
-ghost use Rattle.pair_reduction.specs.Reduced.{Adds, AreMade, CanForget, CanReduce, Forgets, GoesOn, Reduces};
+ghost use Rattle.pair_reduction.specs.Flags.{is_marked};
+ghost use Rattle.pair_reduction.specs.Known.{IsKept, IsOneMore, marks_on};
+ghost use Rattle.pair_reduction.specs.Offered.{AreOffers, ReducesBy, offers_left};
+ghost use Rattle.pair_reduction.specs.Reduced.{CanForget, CanReduce, Forgets, GoesOn, Reduces};
 ghost use Rattle.pair_reduction.specs.Served.{IsServed};
 ghost use Rattle.pair_reduction.specs.Sides.{is_free, is_passed, other};
 
-use crate::offers::offers;
+use crate::known::Known;
+use crate::offered::Offers;
+use crate::offers::make_offers;
 use crate::sides::{Side, list_of};
 use crate::units::delete;
 use derivation::{Deleted, Derivation};
@@ -15,32 +19,32 @@ use hrt_base::{NoMemory, PairNo, RowNo};
 use stability_model::Model;
 use std::alloc::Global;
 
-/// Makes the rows by which a pair, and what its list ranks as low, is deleted by the rule of a side. By rule A that is none; by rule B
-/// they are offers.
+/// Makes the offers by which a pair, and what its list ranks as low, is deleted by the rule of a side. Rule A takes none.
 pub(crate) fn serve(
     alloc: Global,
     model: &Model,
     deriv: &mut Derivation,
-    gone: &Deleted,
+    known: &Known,
+    offers: &mut Offers,
     side: Side,
     p: PairNo,
-) -> Result<Vec<RowNo>, NoMemory>
-    requires can { CanReduce model.now deriv.old gone.now }
+) -> Result<(), NoMemory>
+    requires can { CanReduce model.now deriv.old known.now.gone }
+    requires kept { IsKept model.now known.now }
+    requires offers { AreOffers model.now deriv.old.state.live offers.old }
     requires p { IsPairNo model.now p.0 }
-    requires rule { is_passed side model.now (is_free (other side) model.now (is_deleted gone.now)) p.0 ≡ true }
-    requires next { deriv.old.state.next + 20000 < 10 ^ 18 }
-    ensures adds { IfOk result (λ ids. Adds deriv.old deriv.new (length ids.items)) }
-    ensures made { IfOk result (λ ids. AreMade deriv.old deriv.new ids.items) }
-    ensures few { IfOk result (λ ids. length ids.items ≤ 20000) }
+    requires rule { is_passed side model.now (is_marked (marks_on (other side) known.now)) p.0 ≡ true }
+    requires next { deriv.old.state.next + offers_left model.now offers.old ≤ 10 ^ 18 }
+    ensures reduces { OnOk result (ReducesBy model.now deriv.old deriv.new known.now.gone known.now.gone offers.old offers.new) }
     ensures served { OnOk result (IsServed side model.now deriv.new.state.live p.0) }
     ensures goes_on { GoesOn deriv.old deriv.new }
-    ensures next { deriv.new.state.next ≤ deriv.old.state.next + 20000 }
+    ensures next { deriv.new.state.next ≤ deriv.old.state.next + offers_left model.now offers.old }
 {
     match side {
-        Side::Resident => Ok(Vec::new(alloc)),
+        Side::Resident => Ok(()),
         Side::Hospital => {
-            let ids = offers(alloc, model, deriv, gone, p)?;
-            Ok(ids)
+            make_offers(alloc, model, deriv, known, offers, p)?;
+            Ok(())
         }
     }
 }
@@ -60,7 +64,7 @@ pub(crate) fn delete_by_rule(
     requires rule { is_passed side model.now (is_free (other side) model.now (is_deleted gone.old)) w.0 ≡ true }
     requires served { IsServed side model.now deriv.old.state.live w.0 }
     requires next { deriv.old.state.next < 10 ^ 18 }
-    ensures reduces { OnOk result (Reduces model.now deriv.old deriv.new gone.old gone.new) }
+    ensures reduces { OnOk result (Reduces model.now deriv.old deriv.new gone.old gone.new []) }
     ensures more { OnOk result (IsOneMore gone.old gone.new w.0) }
     ensures goes_on { GoesOn deriv.old deriv.new }
     ensures one { deriv.new.state.next ≤ deriv.old.state.next + 1 }
@@ -75,7 +79,7 @@ pub(crate) fn delete_by_rule(
 pub(crate) fn forget(alloc: Global, deriv: &mut Derivation, ids: &[RowNo]) -> Result<(), NoMemory>
     requires open { deriv.old.claim ≡ None }
     requires can { CanForget ids.now deriv.old }
-    requires few { length ids.now ≤ 20000 }
+    requires few { length ids.now ≤ 100000 }
     requires next { deriv.old.state.next ≤ 10 ^ 18 }
     ensures forgets { OnOk result (Forgets ids.now deriv.old deriv.new) }
     ensures same { OnErr result (deriv.new ≡ deriv.old) }

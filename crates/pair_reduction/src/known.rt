@@ -27,7 +27,7 @@ pub(crate) struct Known {
 }
 
 /// So many pairs, none marked.
-fn no_marks(alloc: Global, pairs: u32) -> Result<Vec<bool>, NoMemory>
+pub(crate) fn no_marks(alloc: Global, pairs: u32) -> Result<Vec<bool>, NoMemory>
     ensures { IfOk result (λ marks. marks.items ≡ replicate pairs false) }
 {
     let mut marks = Vec::with_capacity(alloc, pairs as usize)?;

@@ -3,10 +3,10 @@
 
 mod deletions;
 mod known;
+mod offered;
 mod offers;
 mod ranks;
 mod reduction;
-mod rules;
 mod sides;
 mod units;
 mod visits;

@@ -3,18 +3,23 @@
 ghost use Rattle.std.specs.Prelude.{◌≡◌, ◌+◌, ◌<◌, ◌≤◌, ◌++◌, ◌^◌, IfOk, OnErr, OnOk, length, pos, true};
 ghost use Rattle.rank_tables.specs.Instance.{capacity_of, pair_at, pairs_of_hospital};
 ghost use Rattle.rank_tables.specs.Tables.{IsPairNo};
-ghost use Rattle.rank_tables.specs.WellFormed.{IsWellFormed};
-ghost use Rattle.stability_model.specs.Gone.{has_only, rule_b};
+ghost use Rattle.stability_model.specs.Gone.{has_only};
 ghost use Rattle.proof_lines.specs.Texts.{line_text};
 ghost use Rattle.proof_rules.specs.States.{IsInOrder};
 ghost use Rattle.derivation.specs.Deletions.{AreUnitRows, is_deleted};
 ghost use Rattle.derivation.specs.Derived.{StaysValid};
 ghost use Rattle.derivation.specs.Ready.{IsReady};
 ghost use Rattle.derivation.specs.Steps.{with_new_row};
+ghost use Rattle.pair_reduction.specs.Flags.{is_marked};
+ghost use Rattle.pair_reduction.specs.Known.{IsKept};
+ghost use Rattle.pair_reduction.specs.Offered.{AreOffers, ReducesBy, is_offering, offers_left};
 ghost use Rattle.pair_reduction.specs.Offers.{before_steps, offer_row, offer_steps, row_steps, unit_steps};
-ghost use Rattle.pair_reduction.specs.Reduced.{Adds, AreMade, GoesOn, HasOffers};
+ghost use Rattle.pair_reduction.specs.Reduced.{CanReduce, GoesOn, HasOffers};
+ghost use Rattle.pair_reduction.specs.Sides.{is_passed};
 
-use crate::rules::has_only;
+use crate::known::Known;
+use crate::offered::Offers;
+use crate::sides::Side;
 use derivation::{Deleted, Derivation};
 use hrt_base::{NoMemory, PairNo, RowNo};
 use proof_lines::{Line, PolStep};
@@ -118,40 +123,79 @@ pub(crate) fn offer(
     Ok(id)
 }
 
-/// Makes the rows of so many offers to the hospital of p as it has posts, from residents that it strictly prefers.
-pub(crate) fn offers(
+/// Makes the offer of a pair, if it wasn't made.
+fn offer_once(
     alloc: Global,
     model: &Model,
     deriv: &mut Derivation,
     gone: &Deleted,
+    offers: &mut Offers,
+    q: PairNo,
+) -> Result<(), NoMemory>
+    requires can { CanReduce model.now deriv.old gone.now }
+    requires offers { AreOffers model.now deriv.old.state.live offers.old }
+    requires q { IsPairNo model.now q.0 }
+    requires only { has_only model.now (is_deleted gone.now) q.0 ≡ true }
+    requires posts { 0 < capacity_of model.now (pair_at model.now q.0).hospital }
+    requires few { capacity_of model.now (pair_at model.now q.0).hospital ≤ length (pairs_of_hospital model.now (pair_at model.now q.0).hospital) }
+    requires next { deriv.old.state.next + offers_left model.now offers.old ≤ 10 ^ 18 }
+    ensures reduces { OnOk result (ReducesBy model.now deriv.old deriv.new gone.now gone.now offers.old offers.new) }
+    ensures offered { OnOk result (is_marked offers.new.offered.items q.0 ≡ true) }
+    ensures goes_on { GoesOn deriv.old deriv.new }
+    ensures next { deriv.new.state.next ≤ deriv.old.state.next + offers_left model.now offers.old }
+{
+    if offers.is_made(q) {
+        return Ok(());
+    }
+    let id = offer(alloc, model, deriv, gone, q)?;
+    offers.add(q, id)?;
+    Ok(())
+}
+
+/// Tells whether a pair is marked and the hospital of p strictly prefers it to p.
+fn is_offering(inst: &Instance, known: &Known, p: PairNo, q: PairNo) -> bool
+    requires kept { IsKept inst.now known.now }
+    requires p { IsPairNo inst.now p.0 }
+    requires q { IsPairNo inst.now q.0 }
+    ensures { result ≡ is_offering inst.now known.now.only.items p.0 q.0 }
+{
+    inst.rank_by_hospital(q) < inst.rank_by_hospital(p) && known.is_marked(Side::Resident, q)
+}
+
+/// Makes so many offers to the hospital of p as it has posts, of marked pairs that it strictly prefers. Those that were made before
+/// count.
+pub(crate) fn make_offers(
+    alloc: Global,
+    model: &Model,
+    deriv: &mut Derivation,
+    known: &Known,
+    offers: &mut Offers,
     p: PairNo,
-) -> Result<Vec<RowNo>, NoMemory>
-    requires model { model.now ≡ deriv.old.lists }
-    requires ready { IsReady deriv.old }
-    requires units { AreUnitRows deriv.old.state.live gone.now }
+) -> Result<(), NoMemory>
+    requires can { CanReduce model.now deriv.old known.now.gone }
+    requires kept { IsKept model.now known.now }
+    requires offers { AreOffers model.now deriv.old.state.live offers.old }
     requires p { IsPairNo model.now p.0 }
-    requires rule { rule_b model.now (is_deleted gone.now) p.0 ≡ true }
-    requires next { deriv.old.state.next + 20000 < 10 ^ 18 }
-    ensures adds { IfOk result (λ ids. Adds deriv.old deriv.new (length ids.items)) }
-    ensures made { IfOk result (λ ids. AreMade deriv.old deriv.new ids.items) }
-    ensures few { IfOk result (λ ids. length ids.items ≤ 20000) }
+    requires rule { is_passed Side.Hospital model.now (is_marked known.now.only.items) p.0 ≡ true }
+    requires next { deriv.old.state.next + offers_left model.now offers.old ≤ 10 ^ 18 }
+    ensures reduces { OnOk result (ReducesBy model.now deriv.old deriv.new known.now.gone known.now.gone offers.old offers.new) }
     ensures offers { OnOk result (HasOffers model.now p.0 deriv.new.state.live) }
     ensures goes_on { GoesOn deriv.old deriv.new }
-    ensures next { deriv.new.state.next ≤ deriv.old.state.next + 20000 }
+    ensures next { deriv.new.state.next ≤ deriv.old.state.next + offers_left model.now offers.old }
 {
     let inst = model.instance();
     let hospital = inst.hospital_of(p);
-    let posts = inst.capacity(hospital) as usize;
-    let mut ids = Vec::new(alloc);
+    let posts = inst.capacity(hospital);
+    let mut found = 0u32;
     let pairs = inst.pairs_of_hospital(hospital);
     for q in pairs {
-        if ids.len() >= posts {
-            return Ok(ids);
+        if found >= posts {
+            return Ok(());
         }
-        if inst.rank_by_hospital(*q) < inst.rank_by_hospital(p) && has_only(inst, gone, *q) {
-            let id = offer(alloc, model, deriv, gone, *q)?;
-            ids.push(id)?;
+        if is_offering(inst, known, p, *q) {
+            offer_once(alloc, model, deriv, &known.gone, offers, *q)?;
+            found += 1;
         }
     }
-    Ok(ids)
+    Ok(())
 }

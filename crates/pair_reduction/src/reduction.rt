@@ -1,4 +1,4 @@
-// The reduction: lists are visited until none waits.
+// The reduction: lists are visited until none waits, and the offers that were made for it are forgotten.
 ghost use Rattle.std.specs.Prelude.{◌≡◌, ◌≤◌, ◌+◌, ◌*◌, ◌^◌, IfOk, OnOk, length};
 ghost use Rattle.rank_tables.specs.Instance.{pair_count};
 ghost use Rattle.stability_model.specs.Gone.{AreGone};
@@ -6,7 +6,9 @@ ghost use Rattle.derivation.specs.Deletions.{AreUnitRows, is_deleted};
 ghost use Rattle.derivation.specs.Ready.{IsReady};
 ghost use Rattle.pair_reduction.specs.Reduced.{AreInNone, GoesOn, HoldsUnits, KeepsLive, MakesFew};
 
+use crate::deletions::forget;
 use crate::known::Known;
+use crate::offered::Offers;
 use crate::visits::visit;
 use derivation::{Deleted, Derivation};
 use hrt_base::NoMemory;
@@ -36,12 +38,15 @@ pub fn reduce(
     ensures goes_on { GoesOn deriv.old deriv.new }
     ensures few { MakesFew (pair_count deriv.old.lists) deriv.old deriv.new }
 {
+    let _start = deriv.next();
     let mut known = Known::new(alloc, inst)?;
+    let mut offers = Offers::new(alloc, inst.pairs())?;
     'visits: loop {
         let Some((side, n)) = known.next() else {
+            forget(alloc, deriv, &offers.made)?;
             let Known { gone, .. } = known;
             return Ok(gone);
         };
-        visit(alloc, model, deriv, &mut known, side, n)?;
+        visit(alloc, model, deriv, &mut known, &mut offers, side, n)?;
     }
 }

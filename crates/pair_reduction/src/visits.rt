@@ -5,14 +5,16 @@ ghost use Rattle.rank_tables.specs.Tables.{IsPairNo};
 ghost use Rattle.derivation.specs.Deletions.{deleted_count, is_deleted};
 ghost use Rattle.pair_reduction.specs.Flags.{is_marked, is_waiting};
 ghost use Rattle.pair_reduction.specs.Known.{ArePassed, Gains, IsKept, IsSettled, Pays, marks_on, waiting_on};
+ghost use Rattle.pair_reduction.specs.Offered.{AreOffers, ReducesBy, offers_left};
 ghost use Rattle.pair_reduction.specs.Ranks.{AreRising};
-ghost use Rattle.pair_reduction.specs.Reduced.{CanReduce, GoesOn, HasRoom, MakesFew, MakesOnes, Reduces};
+ghost use Rattle.pair_reduction.specs.Reduced.{CanReduce, GoesOn, HasRoom, Reduces};
 ghost use Rattle.pair_reduction.specs.Served.{FirstOf, IsDue, IsFirst, IsServed};
-ghost use Rattle.pair_reduction.specs.Sides.{is_free, is_passed, list_count, list_of, other, pairs_on};
+ghost use Rattle.pair_reduction.specs.Sides.{is_free, list_count, list_of, other, pairs_on};
 ghost use Rattle.pair_reduction.specs.Visits.{TriesDelete, TriesMark};
 
-use crate::deletions::{delete_by_rule, forget, serve};
+use crate::deletions::{delete_by_rule, serve};
 use crate::known::Known;
+use crate::offered::Offers;
 use crate::ranks::{are_within, ranks_left, ranks_marked};
 use crate::sides::{Side, list_of, other, pairs_on, places, rank_on};
 use derivation::{Deleted, Derivation};
@@ -82,10 +84,9 @@ fn delete_if_passed(
     requires visited { is_waiting (waiting_on side known.old) (list_of side model.now w.0) ≡ true }
     requires ranks { AreRising side model.now (is_marked (marks_on (other side) known.old)) (pairs_on side model.now (list_of side model.now w.0)) ranks.now }
     requires served { IsDue side model.now known.old (list_of side model.now w.0) w.0 → IsServed side model.now deriv.old.state.live w.0 }
-    requires room { HasRoom 1 model.now deriv.old known.old.gone }
-    ensures reduces { OnOk result (Reduces model.now deriv.old deriv.new known.old.gone known.new.gone) }
+    requires room { HasRoom 0 model.now deriv.old known.old.gone }
+    ensures reduces { OnOk result (Reduces model.now deriv.old deriv.new known.old.gone known.new.gone []) }
     ensures tried { OnOk result (TriesDelete side model.now known.old known.new w.0) }
-    ensures ones { OnOk result (MakesOnes deriv.old deriv.new known.old.gone known.new.gone) }
     ensures goes_on { GoesOn deriv.old deriv.new }
     ensures few { deriv.new.state.next ≤ deriv.old.state.next + (pair_count model.now - deleted_count known.old.gone) }
 {
@@ -121,13 +122,12 @@ fn delete_each_passed(
     requires visited { is_waiting (waiting_on side known.old) (list_of side model.now first.0) ≡ true }
     requires ranks { AreRising side model.now (is_marked (marks_on (other side) known.old)) (pairs_on side model.now (list_of side model.now first.0)) ranks.now }
     requires served { IsServed side model.now deriv.old.state.live first.0 }
-    requires room { HasRoom 1 model.now deriv.old known.old.gone }
-    ensures reduces { OnOk result (Reduces model.now deriv.old deriv.new known.old.gone known.new.gone) }
+    requires room { HasRoom 0 model.now deriv.old known.old.gone }
+    ensures reduces { OnOk result (Reduces model.now deriv.old deriv.new known.old.gone known.new.gone []) }
     ensures kept { OnOk result (IsKept model.now known.new) }
     ensures rests { OnOk result (waiting_on side known.new ≡ waiting_on side known.old) }
     ensures pays { OnOk result (Pays known.old known.new) }
     ensures passed { OnOk result (ArePassed side model.now known.new (list_of side model.now first.0)) }
-    ensures ones { OnOk result (MakesOnes deriv.old deriv.new known.old.gone known.new.gone) }
     ensures some { OnOk result (deleted_count known.old.gone < deleted_count known.new.gone) }
     ensures goes_on { GoesOn deriv.old deriv.new }
     ensures few { deriv.new.state.next ≤ deriv.old.state.next + (pair_count model.now - deleted_count known.old.gone) }
@@ -140,38 +140,37 @@ fn delete_each_passed(
     Ok(())
 }
 
-/// Deletes the passed pairs of a list, by rows that are made once for all of them and forgotten after.
+/// Deletes the passed pairs of a list, by offers that are made once for all of them, if they weren't made before.
 fn delete_all_passed(
     alloc: Global,
     model: &Model,
     deriv: &mut Derivation,
     known: &mut Known,
+    offers: &mut Offers,
     side: Side,
     n: u32,
 ) -> Result<(), NoMemory>
     requires can { CanReduce model.now deriv.old known.old.gone }
     requires kept { IsKept model.now known.old }
+    requires offers { AreOffers model.now deriv.old.state.live offers.old }
     requires n { n < list_count side model.now }
     requires waits { is_waiting (waiting_on side known.old) n ≡ true }
-    requires room { HasRoom 20001 model.now deriv.old known.old.gone }
-    ensures reduces { OnOk result (Reduces model.now deriv.old deriv.new known.old.gone known.new.gone) }
+    requires room { HasRoom (offers_left model.now offers.old) model.now deriv.old known.old.gone }
+    ensures reduces { OnOk result (ReducesBy model.now deriv.old deriv.new known.old.gone known.new.gone offers.old offers.new) }
     ensures kept { OnOk result (IsKept model.now known.new) }
     ensures waits { OnOk result (is_waiting (waiting_on side known.new) n ≡ true) }
     ensures pays { OnOk result (Pays known.old known.new) }
     ensures passed { OnOk result (ArePassed side model.now known.new n) }
     ensures goes_on { GoesOn deriv.old deriv.new }
-    ensures few { MakesFew (pair_count model.now - deleted_count known.old.gone) deriv.old deriv.new }
+    ensures few { deriv.new.state.next ≤ deriv.old.state.next + (pair_count model.now - deleted_count known.old.gone) + offers_left model.now offers.old }
 {
     let inst = model.instance();
     let ranks = ranks_marked(alloc, inst, side, n, known.marks(other(side)))?;
     let Some(first) = first_due(inst, known, side, &ranks, n) else {
         return Ok(());
     };
-    let _start = deriv.next();
-    let ids = serve(alloc, model, deriv, &known.gone, side, first)?;
-    let _mid = deriv.next();
+    serve(alloc, model, deriv, known, offers, side, first)?;
     delete_each_passed(alloc, model, deriv, known, side, &ranks, first)?;
-    forget(alloc, deriv, &ids)?;
     Ok(())
 }
 
@@ -244,21 +243,23 @@ pub(crate) fn visit(
     model: &Model,
     deriv: &mut Derivation,
     known: &mut Known,
+    offers: &mut Offers,
     side: Side,
     n: u32,
 ) -> Result<(), NoMemory>
     requires can { CanReduce model.now deriv.old known.old.gone }
     requires kept { IsKept model.now known.old }
+    requires offers { AreOffers model.now deriv.old.state.live offers.old }
     requires n { n < list_count side model.now }
     requires waits { is_waiting (waiting_on side known.old) n ≡ true }
-    requires room { HasRoom 20001 model.now deriv.old known.old.gone }
-    ensures reduces { OnOk result (Reduces model.now deriv.old deriv.new known.old.gone known.new.gone) }
+    requires room { HasRoom (offers_left model.now offers.old) model.now deriv.old known.old.gone }
+    ensures reduces { OnOk result (ReducesBy model.now deriv.old deriv.new known.old.gone known.new.gone offers.old offers.new) }
     ensures kept { OnOk result (IsKept model.now known.new) }
     ensures gains { OnOk result (Gains known.old known.new) }
     ensures goes_on { GoesOn deriv.old deriv.new }
-    ensures few { MakesFew (pair_count model.now - deleted_count known.old.gone) deriv.old deriv.new }
+    ensures few { deriv.new.state.next ≤ deriv.old.state.next + (pair_count model.now - deleted_count known.old.gone) + offers_left model.now offers.old }
 {
-    delete_all_passed(alloc, model, deriv, known, side, n)?;
+    delete_all_passed(alloc, model, deriv, known, offers, side, n)?;
     mark_all_free(alloc, model.instance(), known, side, n)?;
     known.settle(side, n);
     Ok(())

@@ -1,36 +1,35 @@
-use Rattle.std.proofs.Common.{◌≡◌, ℕ, true, List, length, ap, refl, sym, ◌∙◌, subst, arith}
-use Rattle.hrt_base.specs.declared.numbered.RowNo.{RowNo}
+use Rattle.std.proofs.Common.{◌≡◌, ℕ, true, ap, refl, sym, ◌∙◌, subst, arith}
 use Rattle.rank_tables.specs.Instance.{Lists}
 use Rattle.pair_reduction.specs.Flags.{is_waiting}
 use Rattle.pair_reduction.specs.Known.{ArePassed, waiting_on}
-use Rattle.pair_reduction.specs.Reduced.{CanForget, Forgets}
 use Rattle.pair_reduction.specs.Served.{IsFirst}
 use Rattle.pair_reduction.specs.Sides.{list_of, pairs_on}
-use Rattle.pair_reduction.proofs.Deleting.{can_forget, goes_so_far, reduces_with}
-use Rattle.pair_reduction.proofs.Offering.{goes_further, goes_same}
-use Rattle.pair_reduction.proofs.Reducing.{can_added, left_of}
+use Rattle.pair_reduction.proofs.GoingOn.{goes_further}
+use Rattle.pair_reduction.proofs.Offering.{by_none, by_then}
 use Rattle.pair_reduction.proofs.Serving.{first_of, none_of, own_first}
-use Rattle.pair_reduction.proofs.Visiting.{marked_now, rule_of}
+use Rattle.pair_reduction.proofs.Visiting.{marked_now}
 use Rattle.pair_reduction.proofs.visits.delete_all_passed.Goals as goal
 
 pub returns-in_default-clause-passed : goal.returns-in_default-clause-passed
 returns-in_default-clause-passed c = none_of c.args.side c.instance-inst.result.now c.args.model.now c.args.known.now c.args.n c.first_due.result c.instance-inst.ensures c.in_default.is c.first_due.ensures
 
+pub serve-requires-clause-p : goal.serve-requires-clause-p
+serve-requires-clause-p c =
+    let first : IsFirst c.args.side c.args.model.now c.args.known.now c.args.n (pairs_on c.args.side c.args.model.now c.args.n) c.in-Some.first.0 =
+    first_of c.args.side c.instance-inst.result.now c.args.model.now c.args.known.now c.args.n c.first_due.result c.in-Some.first c.instance-inst.ensures c.in-Some.is c.first_due.ensures in
+    first.due.number
+
 pub serve-requires-clause-rule : goal.serve-requires-clause-rule
 serve-requires-clause-rule c =
     let first : IsFirst c.args.side c.args.model.now c.args.known.now c.args.n (pairs_on c.args.side c.args.model.now c.args.n) c.in-Some.first.0 =
     first_of c.args.side c.instance-inst.result.now c.args.model.now c.args.known.now c.args.n c.first_due.result c.in-Some.first c.instance-inst.ensures c.in-Some.is c.first_due.ensures in
-    rule_of c.args.side c.args.model.now c.args.known.now c.args.known.now c.in-Some.first.0 c.requires.kept refl first.due.passed
+    first.due.passed
 
 pub serve-requires-clause-next : goal.serve-requires-clause-next
-serve-requires-clause-next c =
-    let first : IsFirst c.args.side c.args.model.now c.args.known.now c.args.n (pairs_on c.args.side c.args.model.now c.args.n) c.in-Some.first.0 =
-    first_of c.args.side c.instance-inst.result.now c.args.model.now c.args.known.now c.args.n c.first_due.result c.in-Some.first c.instance-inst.ensures c.in-Some.is c.first_due.ensures in
-    let left = left_of c.args.model.now c.args.deriv.now c.args.known.now.gone c.in-Some.first.0 c.requires.can first.due.number first.due.left in
-    omega (arith, c.requires.room, left)
+serve-requires-clause-next c = omega (arith, c.requires.room)
 
 pub delete_each_passed-requires-clause-can : goal.delete_each_passed-requires-clause-can
-delete_each_passed-requires-clause-can c = can_added c.args.model.now c.args.deriv.now c.serve.new.deriv c.args.known.now.gone (length c.in_ok-ids.ids.items) c.requires.can c.in_ok-ids.ensures.adds
+delete_each_passed-requires-clause-can c = c.in_ok-serve.ensures.reduces.reduces.can
 
 pub delete_each_passed-requires-clause-first : goal.delete_each_passed-requires-clause-first
 delete_each_passed-requires-clause-first c = own_first c.args.side c.args.model.now c.args.known.now c.args.n c.in-Some.first.0 (first_of c.args.side c.instance-inst.result.now c.args.model.now c.args.known.now c.args.n c.first_due.result c.in-Some.first c.instance-inst.ensures c.in-Some.is c.first_due.ensures)
@@ -49,56 +48,24 @@ delete_each_passed-requires-clause-visited c =
     subst (λ (k : ℕ). is_waiting (waiting_on c.args.side c.args.known.now) k ≡ true) (sym first.due.list) c.requires.waits
 
 pub delete_each_passed-requires-clause-room : goal.delete_each_passed-requires-clause-room
-delete_each_passed-requires-clause-room c =
-    let first : IsFirst c.args.side c.args.model.now c.args.known.now c.args.n (pairs_on c.args.side c.args.model.now c.args.n) c.in-Some.first.0 =
-    first_of c.args.side c.instance-inst.result.now c.args.model.now c.args.known.now c.args.n c.first_due.result c.in-Some.first c.instance-inst.ensures c.in-Some.is c.first_due.ensures in
-    let left = left_of c.args.model.now c.args.deriv.now c.args.known.now.gone c.in-Some.first.0 c.requires.can first.due.number first.due.left in
-    omega (arith, c.requires.room, left, c.in_ok-ids.ensures.next)
+delete_each_passed-requires-clause-room c = omega (arith, c.requires.room, c.in_ok-serve.ensures.next)
 
-pub forget-requires-clause-can : goal.forget-requires-clause-can
-forget-requires-clause-can c =
-    subst (λ (xs : List RowNo). CanForget xs c.delete_each_passed.new.deriv) (sym c.deref-3.ensures.value)
-    (can_forget c.args.model.now c.args.deriv.now c.serve.new.deriv c.delete_each_passed.new.deriv c.args.known.now.gone c.delete_each_passed.new.known.gone c.in_ok-ids.ids.items c.requires.can c.next-start.ensures.in_order
-    c.in_ok-ids.ensures.adds c.in_ok-ids.ensures.made c.next-mid.ensures.in_order c.in_ok-delete_each_passed.ensures.reduces)
-
-pub returns-in_err-ids-clause-few : goal.returns-in_err-ids-clause-few
-returns-in_err-ids-clause-few c =
-    let first : IsFirst c.args.side c.args.model.now c.args.known.now c.args.n (pairs_on c.args.side c.args.model.now c.args.n) c.in-Some.first.0 =
-    first_of c.args.side c.instance-inst.result.now c.args.model.now c.args.known.now c.args.n c.first_due.result c.in-Some.first c.instance-inst.ensures c.in-Some.is c.first_due.ensures in
-    let left = left_of c.args.model.now c.args.deriv.now c.args.known.now.gone c.in-Some.first.0 c.requires.can first.due.number first.due.left in
-    omega (arith, left, c.in_err-ids.ensures.next)
+pub returns-in_default-clause-reduces : goal.returns-in_default-clause-reduces
+returns-in_default-clause-reduces c = by_none c.args.model.now c.args.deriv.now c.args.known.now.gone c.args.offers.now c.requires.can c.requires.offers
 
 pub returns-in_err-delete_each_passed-clause-goes_on : goal.returns-in_err-delete_each_passed-clause-goes_on
-returns-in_err-delete_each_passed-clause-goes_on c = goes_further c.args.deriv.now c.serve.new.deriv c.delete_each_passed.new.deriv c.in_ok-ids.ensures.goes_on c.in_err-delete_each_passed.ensures.goes_on
+returns-in_err-delete_each_passed-clause-goes_on c = goes_further c.args.deriv.now c.serve.new.deriv c.delete_each_passed.new.deriv c.in_ok-serve.ensures.goes_on c.in_err-delete_each_passed.ensures.goes_on
 
 pub returns-in_err-delete_each_passed-clause-few : goal.returns-in_err-delete_each_passed-clause-few
-returns-in_err-delete_each_passed-clause-few c =
-    let first : IsFirst c.args.side c.args.model.now c.args.known.now c.args.n (pairs_on c.args.side c.args.model.now c.args.n) c.in-Some.first.0 =
-    first_of c.args.side c.instance-inst.result.now c.args.model.now c.args.known.now c.args.n c.first_due.result c.in-Some.first c.instance-inst.ensures c.in-Some.is c.first_due.ensures in
-    let left = left_of c.args.model.now c.args.deriv.now c.args.known.now.gone c.in-Some.first.0 c.requires.can first.due.number first.due.left in
-    omega (arith, left, c.in_ok-ids.ensures.next, c.in_err-delete_each_passed.ensures.few)
-
-pub returns-in_err-forget-clause-goes_on : goal.returns-in_err-forget-clause-goes_on
-returns-in_err-forget-clause-goes_on c =
-    goes_further c.args.deriv.now c.delete_each_passed.new.deriv c.forget.new.deriv
-    (goes_so_far c.args.model.now c.args.deriv.now c.serve.new.deriv c.delete_each_passed.new.deriv c.args.known.now.gone c.delete_each_passed.new.known.gone c.in_ok-ids.ids.items c.requires.can c.next-start.ensures.in_order
-    c.in_ok-ids.ensures.adds c.in_ok-ids.ensures.made c.next-mid.ensures.in_order c.in_ok-delete_each_passed.ensures.reduces)
-    (goes_same c.delete_each_passed.new.deriv c.forget.new.deriv c.in_err-forget.ensures.same)
+returns-in_err-delete_each_passed-clause-few c = omega (arith, c.in_ok-serve.ensures.next, c.in_err-delete_each_passed.ensures.few)
 
 pub returns-clause-goes_on : goal.returns-clause-goes_on
-returns-clause-goes_on c =
-    let gone : Forgets c.in_ok-ids.ids.items c.delete_each_passed.new.deriv c.forget.new.deriv = subst (λ (xs : List RowNo). Forgets xs c.delete_each_passed.new.deriv c.forget.new.deriv) c.deref-3.ensures.value c.in_ok-forget.ensures.forgets in
-    goes_further c.args.deriv.now c.delete_each_passed.new.deriv c.forget.new.deriv
-    (goes_so_far c.args.model.now c.args.deriv.now c.serve.new.deriv c.delete_each_passed.new.deriv c.args.known.now.gone c.delete_each_passed.new.known.gone c.in_ok-ids.ids.items c.requires.can c.next-start.ensures.in_order
-    c.in_ok-ids.ensures.adds c.in_ok-ids.ensures.made c.next-mid.ensures.in_order c.in_ok-delete_each_passed.ensures.reduces)
-    gone.goes_on
+returns-clause-goes_on c = goes_further c.args.deriv.now c.serve.new.deriv c.delete_each_passed.new.deriv c.in_ok-serve.ensures.goes_on c.in_ok-delete_each_passed.ensures.goes_on
 
 pub returns-clause-reduces : goal.returns-clause-reduces
 returns-clause-reduces c =
-    let gone : Forgets c.in_ok-ids.ids.items c.delete_each_passed.new.deriv c.forget.new.deriv = subst (λ (xs : List RowNo). Forgets xs c.delete_each_passed.new.deriv c.forget.new.deriv) c.deref-3.ensures.value c.in_ok-forget.ensures.forgets in
-    reduces_with c.args.model.now c.args.deriv.now c.serve.new.deriv c.delete_each_passed.new.deriv c.args.known.now.gone c.delete_each_passed.new.known.gone c.in_ok-ids.ids.items c.requires.can c.next-start.ensures.in_order
-    c.in_ok-ids.ensures.adds c.in_ok-ids.ensures.made c.next-mid.ensures.in_order c.in_ok-delete_each_passed.ensures.reduces
-    c.forget.new.deriv gone (omega (arith, gone.next, c.in_ok-delete_each_passed.ensures.ones, c.in_ok-delete_each_passed.ensures.some, c.in_ok-ids.ensures.next))
+    by_then c.args.model.now c.args.deriv.now c.serve.new.deriv c.delete_each_passed.new.deriv c.args.known.now.gone c.args.known.now.gone c.delete_each_passed.new.known.gone c.args.offers.now c.serve.new.offers c.in_ok-serve.ensures.reduces
+    c.in_ok-delete_each_passed.ensures.reduces
 
 pub returns-clause-passed : goal.returns-clause-passed
 returns-clause-passed c =
@@ -107,9 +74,4 @@ returns-clause-passed c =
     subst (ArePassed c.args.side c.args.model.now c.delete_each_passed.new.known) first.due.list c.in_ok-delete_each_passed.ensures.passed
 
 pub returns-clause-few : goal.returns-clause-few
-returns-clause-few c =
-    let gone : Forgets c.in_ok-ids.ids.items c.delete_each_passed.new.deriv c.forget.new.deriv = subst (λ (xs : List RowNo). Forgets xs c.delete_each_passed.new.deriv c.forget.new.deriv) c.deref-3.ensures.value c.in_ok-forget.ensures.forgets in
-    let first : IsFirst c.args.side c.args.model.now c.args.known.now c.args.n (pairs_on c.args.side c.args.model.now c.args.n) c.in-Some.first.0 =
-    first_of c.args.side c.instance-inst.result.now c.args.model.now c.args.known.now c.args.n c.first_due.result c.in-Some.first c.instance-inst.ensures c.in-Some.is c.first_due.ensures in
-    let left = left_of c.args.model.now c.args.deriv.now c.args.known.now.gone c.in-Some.first.0 c.requires.can first.due.number first.due.left in
-    omega (arith, left, gone.next, c.in_ok-ids.ensures.next, c.in_ok-delete_each_passed.ensures.few)
+returns-clause-few c = omega (arith, c.in_ok-serve.ensures.next, c.in_ok-delete_each_passed.ensures.few)

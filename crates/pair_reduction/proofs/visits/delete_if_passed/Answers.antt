@@ -1,12 +1,14 @@
-use Rattle.std.proofs.Common.{ap, refl, sym, ◌∙◌, arith}
+use Rattle.std.proofs.Common.{refl, sym, ◌∙◌, arith}
 use Rattle.std.proofs.lemmas.Bool.{true≢false}
-use Rattle.derivation.specs.Deletions.{deleted_count}
 use Rattle.pair_reduction.specs.Flags.{is_marked}
 use Rattle.pair_reduction.proofs.Reducing.{left_of, reduces_none}
 use Rattle.pair_reduction.specs.Known.{marks_on}
 use Rattle.pair_reduction.specs.Sides.{other}
 use Rattle.pair_reduction.proofs.Visiting.{deletes_none, deletes_one, dropped, passed_test, rule_of}
 use Rattle.pair_reduction.proofs.visits.delete_if_passed.Goals as goal
+
+pub returns-then-is_gone-clause-reduces : goal.returns-then-is_gone-clause-reduces
+returns-then-is_gone-clause-reduces c = reduces_none c.args.model.now c.args.deriv.now c.args.known.now.gone c.requires.can
 
 pub returns-then-not-are_within-clause-reduces : goal.returns-then-not-are_within-clause-reduces
 returns-then-not-are_within-clause-reduces c = reduces_none c.args.model.now c.args.deriv.now c.args.known.now.gone c.requires.can
@@ -39,9 +41,6 @@ pub returns-clause-few : goal.returns-clause-few
 returns-clause-few c =
     let left = left_of c.args.model.now c.args.deriv.now c.args.known.now.gone c.args.w.0 c.requires.can c.requires.w (sym c.is_gone.ensures ∙ c.if-is_gone.false) in
     omega (arith, c.in_ok-delete_by_rule.ensures.one, left)
-
-pub returns-clause-ones : goal.returns-clause-ones
-returns-clause-ones c = omega (arith, c.in_ok-delete_by_rule.ensures.one, c.in_ok-delete_by_rule.ensures.more.count, ap deleted_count c.in_ok-wait.ensures.gone)
 
 pub returns-clause-tried : goal.returns-clause-tried
 returns-clause-tried c =

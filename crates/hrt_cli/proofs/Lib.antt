@@ -13,5 +13,7 @@ mod ReadOut
 mod Runs
 mod Solving
 mod ToldProofs
+mod WorkedReports
+mod WorkedWords
 mod WrittenModels
 mod WrittenOutputs

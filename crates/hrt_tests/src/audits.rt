@@ -1,7 +1,6 @@
 //! Runs of `audit`.
-use crate::runs::{WORKED, audit, host_with, words};
+use crate::runs::{WORKED, audit, run_over};
 use hrt_base::Port;
-use hrt_cli::run;
 use std::test::Fail;
 
 #[test]
@@ -58,11 +57,10 @@ fn a_refused_instance_comes_before_the_pairs(rt: HostRuntime) -> Result<(), Fail
 #[test]
 fn the_pairs_of_a_refused_instance_are_not_read(rt: HostRuntime) -> Result<(), Fail> {
     let alloc = rt.alloc();
-    let words = words(alloc, &["audit", "i", "absent"])?;
-    let mut host = host_with(alloc, b"hrt 1\n", b"")?;
-    assert_eq!(rt; run(alloc, &words, &mut host), 3);
+    let ended = run_over(alloc, &["audit", "i", "absent"], b"hrt 1\n", b"")?;
+    assert_eq!(rt; ended.code, 3);
     assert_eq!(rt;
-        host.sent(Port::Report),
+        ended.host.sent(Port::Report),
         b"instance refused line 1 NoEnd\n".as_slice()
     );
     Ok(())

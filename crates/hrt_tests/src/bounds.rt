@@ -3,9 +3,8 @@ ghost use Rattle.std.specs.Prelude.{◌<◌};
 
 use crate::jobs::{BOUND_PROOF, EMPTY, NO_POST, OPEN, QUICK_PROOF, STRICT, TOWN};
 use crate::models::WORKED_MODEL;
-use crate::runs::{Ended, WORKED, host_with, words};
+use crate::runs::{Ended, WORKED, check, run_over, run_writing, verify};
 use hrt_base::{NoMemory, Port};
-use hrt_cli::run;
 use std::alloc::Global;
 use std::process::Abort;
 use std::test::Fail;
@@ -26,14 +25,7 @@ fn prove(
 ) -> Result<Ended, NoMemory>
     requires { 0 < most }
 {
-    let mut host = host_with(alloc, instance, b"")?;
-    host.give_room(Port::Model, "m", 10_000)?;
-    host.give_room(Port::Proof, "p", 10_000)?;
-    host.piece(most);
-    host.fail_at(failing)?;
-    let words = words(alloc, &[command, "i", "m", "p"])?;
-    let code = run(alloc, &words, &mut host);
-    Ok(Ended { code, host })
+    run_writing(alloc, &[command, "i", "m", "p"], instance, most, failing)
 }
 
 #[test]
@@ -124,14 +116,6 @@ fn worked_bounds(rt: HostRuntime) -> Result<(), Fail> {
     Ok(())
 }
 
-// What a command that checks a proof tells of two files.
-fn judge(alloc: Global, command: &str, input: &[u8], proof: &[u8]) -> Result<Ended, NoMemory> {
-    let mut host = host_with(alloc, input, proof)?;
-    let words = words(alloc, &[command, "i", "q"])?;
-    let code = run(alloc, &words, &mut host);
-    Ok(Ended { code, host })
-}
-
 // What `verify` and `check` tell of what a command wrote for the instance.
 fn accepted(
     rt: &impl Abort,
@@ -143,10 +127,10 @@ fn accepted(
 ) -> Result<(), Fail> {
     let written = prove(alloc, command, instance, 1_000, 1_000_000)?;
     let proof = written.host.file("p").unwrap_or(b"");
-    let ended = judge(alloc, "verify", instance, proof)?;
+    let ended = verify(alloc, instance, proof)?;
     assert_eq!(rt; ended.host.sent(Port::Report), verified);
     let model = written.host.file("m").unwrap_or(b"");
-    let ended = judge(alloc, "check", model, proof)?;
+    let ended = check(alloc, model, proof)?;
     assert_eq!(rt; ended.host.sent(Port::Report), checked);
     Ok(())
 }
@@ -231,15 +215,14 @@ fn words_of_the_commands(rt: HostRuntime) -> Result<(), Fail> {
         &["bound", "i", "p", "p"],
     ];
     for texts in cases.iter() {
-        let mut host = host_with(alloc, WORKED, b"")?;
-        let words = words(alloc, texts)?;
-        assert_eq!(rt; run(alloc, &words, &mut host), 2);
+        let ended = run_over(alloc, texts, WORKED, b"")?;
+        assert_eq!(rt; ended.code, 2);
         assert_eq!(rt;
-            host.sent(Port::Report),
+            ended.host.sent(Port::Report),
             b"words not understood\n".as_slice()
         );
-        assert_eq!(rt; host.file("m"), None);
-        assert_eq!(rt; host.file("p"), None);
+        assert_eq!(rt; ended.host.file("m"), None);
+        assert_eq!(rt; ended.host.file("p"), None);
     }
     Ok(())
 }

@@ -1,19 +1,9 @@
 //! Runs of `check`.
 use crate::models::WORKED_MODEL;
-use crate::runs::{Ended, WORKED, host_with, words};
+use crate::runs::{WORKED, check, run_over};
 use crate::verifies::WORKED_PROOF;
-use hrt_base::{NoMemory, Port};
-use hrt_cli::run;
-use std::alloc::Global;
+use hrt_base::Port;
 use std::test::Fail;
-
-// A run of `check`.
-fn check(alloc: Global, model: &[u8], proof: &[u8]) -> Result<Ended, NoMemory> {
-    let mut host = host_with(alloc, model, proof)?;
-    let words = words(alloc, &["check", "i", "q"])?;
-    let code = run(alloc, &words, &mut host);
-    Ok(Ended { code, host })
-}
 
 #[test]
 fn models_and_proofs(rt: HostRuntime) -> Result<(), Fail> {
@@ -90,11 +80,10 @@ fn words_of_both_commands(rt: HostRuntime) -> Result<(), Fail> {
         &["Verify", "i", "q"],
     ];
     for texts in cases.iter() {
-        let words = words(alloc, texts)?;
-        let mut host = host_with(alloc, WORKED, WORKED_PROOF)?;
-        assert_eq!(rt; run(alloc, &words, &mut host), 2);
+        let ended = run_over(alloc, texts, WORKED, WORKED_PROOF)?;
+        assert_eq!(rt; ended.code, 2);
         assert_eq!(rt;
-            host.sent(Port::Report),
+            ended.host.sent(Port::Report),
             b"words not understood\n".as_slice()
         );
     }
@@ -104,11 +93,10 @@ fn words_of_both_commands(rt: HostRuntime) -> Result<(), Fail> {
 #[test]
 fn the_proof_of_a_refused_model_is_not_read(rt: HostRuntime) -> Result<(), Fail> {
     let alloc = rt.alloc();
-    let words = words(alloc, &["check", "i", "absent"])?;
-    let mut host = host_with(alloc, b"min: x1 x2 ;\n", b"")?;
-    assert_eq!(rt; run(alloc, &words, &mut host), 8);
+    let ended = run_over(alloc, &["check", "i", "absent"], b"min: x1 x2 ;\n", b"")?;
+    assert_eq!(rt; ended.code, 8);
     assert_eq!(rt;
-        host.sent(Port::Report),
+        ended.host.sent(Port::Report),
         b"model refused line 1 Syntax\n".as_slice()
     );
     Ok(())

@@ -2,19 +2,14 @@
 ghost use Rattle.std.specs.Prelude.{◌≡◌, ◌<◌, IfOk};
 ghost use Rattle.hrt_host.specs.Memory.{memory_world};
 
-use crate::definition::instance_of;
 use crate::models::WORKED_MODEL;
-use crate::runs::{Ended, WORKED, host_with, words};
-use hrt_base::{Begun, Host, NoMemory, PairNo, Port};
-use hrt_cli::run;
+use crate::runs::{WORKED, verify};
+use hrt_base::{Begun, Host, PairNo, Port};
 use hrt_host::MemoryHost;
 use hrt_reader::read_instance;
 use hrt_solve::{bound, quick};
-use opb_text::formula_of;
-use proof_checker::Checker;
-use proof_lines::Claim;
-use stability_model::Model;
 use std::alloc::Global;
+use std::process::Abort;
 use std::test::Fail;
 
 /// The first matching is smaller than the ceiling.
@@ -125,14 +120,6 @@ fn worked_bound(rt: HostRuntime) -> Result<(), Fail> {
     Ok(())
 }
 
-// What `verify` tells of a proof of the instance.
-fn verify(alloc: Global, instance: &[u8], proof: &[u8]) -> Result<Ended, NoMemory> {
-    let mut host = host_with(alloc, instance, proof)?;
-    let words = words(alloc, &["verify", "i", "q"])?;
-    let code = run(alloc, &words, &mut host);
-    Ok(Ended { code, host })
-}
-
 #[test]
 fn proofs_are_accepted(rt: HostRuntime) -> Result<(), Fail> {
     let alloc = rt.alloc();
@@ -184,35 +171,13 @@ fn proofs_are_accepted(rt: HostRuntime) -> Result<(), Fail> {
     Ok(())
 }
 
-#[test]
-fn bounds_of_small_instances_are_accepted(rt: HostRuntime) -> Result<(), Fail> {
-    let alloc = rt.alloc();
-    for number in 0..400 {
-        let small = instance_of(number);
-        let text = small.text(alloc)?;
-        if text.len() > 1000 {
-            return Err(Fail::from(NoMemory));
-        }
-        let inst = read_instance(alloc, &text)?;
-        let mut host = writing(alloc, 1_000, 1_000_000)?;
-        let end = bound(alloc, &inst, &mut host)?;
-        let lines = host.sent(Port::Proof);
-        if lines.len() > 10_000 {
-            return Err(Fail::from(NoMemory));
-        }
-        let formula = formula_of(alloc, &Model::of(alloc, &inst)?)?;
-        let mut checker = Checker::new(alloc, formula)?;
-        checker.feed(alloc, lines)?;
-        assert_eq!(rt;
-            checker.finish(alloc)?,
-            Claim::Bounds {
-                lower: Some(-i128::from(end.ceiling)),
-                upper: None,
-            },
-            "of instance {number}"
-        );
-    }
-    Ok(())
+// After a call that failed, the files of the worked instance are fronts, and nothing of the proof was sent before the whole model.
+fn leaves_fronts(rt: &impl Abort, host: &MemoryHost, proof: &[u8]) {
+    let model = host.sent(Port::Model);
+    let lines = host.sent(Port::Proof);
+    assert!(rt; WORKED_MODEL.starts_with(model));
+    assert!(rt; proof.starts_with(lines));
+    assert!(rt; lines.is_empty() || model == WORKED_MODEL);
 }
 
 #[test]
@@ -221,13 +186,8 @@ fn each_call_of_a_bound_fails_in_turn(rt: HostRuntime) -> Result<(), Fail> {
     let inst = read_instance(alloc, WORKED)?;
     for failing in 3..CALLS + 2 {
         let mut host = writing(alloc, 1_000, failing)?;
-        let failed = bound(alloc, &inst, &mut host).is_err();
-        let model = host.sent(Port::Model);
-        let proof = host.sent(Port::Proof);
-        assert_eq!(rt; failed, failing <= CALLS);
-        assert!(rt; WORKED_MODEL.starts_with(model));
-        assert!(rt; BOUND_PROOF.starts_with(proof));
-        assert!(rt; proof.is_empty() || model == WORKED_MODEL);
+        assert_eq!(rt; bound(alloc, &inst, &mut host).is_err(), failing <= CALLS);
+        leaves_fronts(&rt, &host, BOUND_PROOF);
     }
     Ok(())
 }
@@ -238,13 +198,8 @@ fn each_call_of_a_quick_solve_fails_in_turn(rt: HostRuntime) -> Result<(), Fail>
     let inst = read_instance(alloc, WORKED)?;
     for failing in 3..CALLS + 2 {
         let mut host = writing(alloc, 1_000, failing)?;
-        let failed = quick(alloc, &inst, &mut host).is_err();
-        let model = host.sent(Port::Model);
-        let proof = host.sent(Port::Proof);
-        assert_eq!(rt; failed, failing <= CALLS);
-        assert!(rt; WORKED_MODEL.starts_with(model));
-        assert!(rt; QUICK_PROOF.starts_with(proof));
-        assert!(rt; proof.is_empty() || model == WORKED_MODEL);
+        assert_eq!(rt; quick(alloc, &inst, &mut host).is_err(), failing <= CALLS);
+        leaves_fronts(&rt, &host, QUICK_PROOF);
     }
     Ok(())
 }

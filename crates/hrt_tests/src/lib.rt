@@ -8,8 +8,6 @@ mod bounds;
 #[cfg(test)]
 mod checks;
 #[cfg(test)]
-mod definition;
-#[cfg(test)]
 mod faults;
 #[cfg(test)]
 mod jobs;
@@ -17,12 +15,6 @@ mod jobs;
 mod limits;
 #[cfg(test)]
 mod models;
-#[cfg(test)]
-mod points;
-#[cfg(test)]
-mod promotions;
-#[cfg(test)]
-mod reductions;
 #[cfg(test)]
 mod runs;
 #[cfg(test)]

@@ -1,10 +1,8 @@
 //! Runs of `model`.
 ghost use Rattle.std.specs.Prelude.{◌<◌};
 
-use crate::runs::{WORKED, host_with, words};
+use crate::runs::{Ended, WORKED, run_over, run_writing};
 use hrt_base::{NoMemory, Port};
-use hrt_cli::run;
-use hrt_host::MemoryHost;
 use hrt_reader::{ReadRefusal, read_instance};
 use opb_text::{Formula, OpbRefusal, formula_of, read_opb};
 use rank_tables::Instance;
@@ -16,22 +14,11 @@ use std::test::Fail;
 pub const WORKED_MODEL: &[u8] =
     b"* #variable= 3 #constraint= 7\nmin: -1 x1 -1 x2 -1 x3 ;\n-1 x1 -1 x2 >= -1 ;\n-1 x3 >= -1 ;\n-1 x1 -1 x3 >= -1 ;\n-1 x2 >= -1 ;\n+2 x1 +1 x3 >= 1 ;\n+1 x1 +2 x2 >= 1 ;\n+1 x1 +2 x3 >= 1 ;\n";
 
-// A run of `model i m`, with calls that move at most so many bytes, of which this one fails.
-fn model(
-    alloc: Global,
-    instance: &[u8],
-    most: usize,
-    failing: u64,
-) -> Result<(u8, MemoryHost), NoMemory>
+// A run of `model`, with calls that move at most so many bytes, of which this one fails.
+fn model(alloc: Global, instance: &[u8], most: usize, failing: u64) -> Result<Ended, NoMemory>
     requires { 0 < most }
 {
-    let mut host = host_with(alloc, instance, b"")?;
-    host.give_room(Port::Model, "m", 10_000)?;
-    host.piece(most);
-    host.fail_at(failing)?;
-    let words = words(alloc, &["model", "i", "m"])?;
-    let code = run(alloc, &words, &mut host);
-    Ok((code, host))
+    run_writing(alloc, &["model", "i", "m"], instance, most, failing)
 }
 
 #[test]
@@ -69,9 +56,9 @@ fn worked_models(rt: HostRuntime) -> Result<(), Fail> {
     ];
     for (instance, code, file, report) in cases.iter() {
         let ended = model(alloc, instance, 1_000, 1_000)?;
-        assert_eq!(rt; ended.0, *code);
-        assert_eq!(rt; ended.1.file("m"), *file);
-        assert_eq!(rt; ended.1.sent(Port::Report), *report);
+        assert_eq!(rt; ended.code, *code);
+        assert_eq!(rt; ended.host.file("m"), *file);
+        assert_eq!(rt; ended.host.sent(Port::Report), *report);
     }
     Ok(())
 }
@@ -86,10 +73,9 @@ fn words_of_the_model(rt: HostRuntime) -> Result<(), Fail> {
         &["model", "i", "m", "p"],
     ];
     for texts in cases.iter() {
-        let mut host = host_with(alloc, WORKED, b"")?;
-        let words = words(alloc, texts)?;
-        assert_eq!(rt; run(alloc, &words, &mut host), 2);
-        assert_eq!(rt; host.file("m"), None);
+        let ended = run_over(alloc, texts, WORKED, b"")?;
+        assert_eq!(rt; ended.code, 2);
+        assert_eq!(rt; ended.host.file("m"), None);
     }
     Ok(())
 }
@@ -103,19 +89,19 @@ fn each_call_fails_in_turn(rt: HostRuntime) -> Result<(), Fail> {
         let mut statuses = [0u32; 3];
         for call in 1..500 {
             let ended = model(alloc, WORKED, most, call)?;
-            let host = &ended.1;
+            let host = &ended.host;
             let sent = host.sent(Port::Model);
             let told = host.sent(Port::Report);
             assert!(rt; WORKED_MODEL.starts_with(sent));
             assert!(rt; report.starts_with(told));
-            if ended.0 == 4 {
+            if ended.code == 4 {
                 assert!(rt; sent.is_empty());
                 statuses[0] = statuses[0].saturating_add(1);
-            } else if ended.0 == 5 {
+            } else if ended.code == 5 {
                 assert!(rt; told.is_empty() || host.file("m") == Some(WORKED_MODEL));
                 statuses[1] = statuses[1].saturating_add(1);
             } else {
-                assert_eq!(rt; ended.0, 0);
+                assert_eq!(rt; ended.code, 0);
                 assert_eq!(rt; host.file("m"), Some(WORKED_MODEL));
                 assert_eq!(rt; told, report);
                 statuses[2] = statuses[2].saturating_add(1);
@@ -150,7 +136,7 @@ fn a_written_model_is_read_back(rt: HostRuntime) -> Result<(), Fail> {
     ];
     for text in instances.iter() {
         let ended = model(alloc, text, 7, 1_000)?;
-        let read = formula_in(alloc, ended.1.file("m").unwrap_or(b""))?;
+        let read = formula_in(alloc, ended.host.file("m").unwrap_or(b""))?;
         let instance = instance_in(alloc, text)?;
         let made = formula_of(alloc, &Model::of(alloc, &instance)?)?;
         assert_eq!(rt; read.vars, made.vars);

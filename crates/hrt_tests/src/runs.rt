@@ -1,5 +1,5 @@
 //! Runs over a host in memory.
-ghost use Rattle.std.specs.Prelude.{◌≡◌, IfOk, OnOk};
+ghost use Rattle.std.specs.Prelude.{◌≡◌, ◌<◌, IfOk, OnOk};
 ghost use Rattle.hrt_base.specs.Calls.{AtStart};
 ghost use Rattle.hrt_host.specs.Memory.{memory_world};
 
@@ -39,18 +39,55 @@ pub fn words(alloc: Global, texts: &[&str]) -> Result<Vec<String>, NoMemory> {
     Ok(words)
 }
 
-/// A run of `solve i`.
-pub fn solve(alloc: Global, instance: &[u8]) -> Result<Ended, NoMemory> {
-    let mut host = host_with(alloc, instance, b"")?;
-    let words = words(alloc, &["solve", "i"])?;
+/// A run of these words over the files `i` and `q`.
+pub fn run_over(
+    alloc: Global,
+    texts: &[&str],
+    first: &[u8],
+    second: &[u8],
+) -> Result<Ended, NoMemory> {
+    let mut host = host_with(alloc, first, second)?;
+    let words = words(alloc, texts)?;
     let code = run(alloc, &words, &mut host);
     Ok(Ended { code, host })
 }
 
-/// A run of `audit i q`.
-pub fn audit(alloc: Global, instance: &[u8], pairs: &[u8]) -> Result<Ended, NoMemory> {
-    let mut host = host_with(alloc, instance, pairs)?;
-    let words = words(alloc, &["audit", "i", "q"])?;
+/// A run of these words over the file `i`, with room for the files `m` and `p`. Its calls move at most so many bytes, and this one fails.
+pub fn run_writing(
+    alloc: Global,
+    texts: &[&str],
+    instance: &[u8],
+    most: usize,
+    failing: u64,
+) -> Result<Ended, NoMemory>
+    requires { 0 < most }
+{
+    let mut host = host_with(alloc, instance, b"")?;
+    host.give_room(Port::Model, "m", 10_000)?;
+    host.give_room(Port::Proof, "p", 10_000)?;
+    host.piece(most);
+    host.fail_at(failing)?;
+    let words = words(alloc, texts)?;
     let code = run(alloc, &words, &mut host);
     Ok(Ended { code, host })
+}
+
+/// A run of `solve` over an instance.
+pub fn solve(alloc: Global, instance: &[u8]) -> Result<Ended, NoMemory> {
+    run_over(alloc, &["solve", "i"], instance, b"")
+}
+
+/// A run of `audit` over an instance and pairs.
+pub fn audit(alloc: Global, instance: &[u8], pairs: &[u8]) -> Result<Ended, NoMemory> {
+    run_over(alloc, &["audit", "i", "q"], instance, pairs)
+}
+
+/// A run of `verify` over an instance and a proof.
+pub fn verify(alloc: Global, instance: &[u8], proof: &[u8]) -> Result<Ended, NoMemory> {
+    run_over(alloc, &["verify", "i", "q"], instance, proof)
+}
+
+/// A run of `check` over a model and a proof.
+pub fn check(alloc: Global, model: &[u8], proof: &[u8]) -> Result<Ended, NoMemory> {
+    run_over(alloc, &["check", "i", "q"], model, proof)
 }

@@ -1,5 +1,5 @@
 //! Runs of `solve`: worked instances, words, limits.
-use crate::runs::{WORKED, host_with, solve, words};
+use crate::runs::{WORKED, run_over, solve, words};
 use hrt_base::Port;
 use hrt_cli::run;
 use hrt_host::MemoryHost;
@@ -73,11 +73,10 @@ fn words_that_ask_for_nothing(rt: HostRuntime) -> Result<(), Fail> {
         &["--help"],
     ];
     for texts in cases.iter() {
-        let mut host = host_with(alloc, WORKED, b"")?;
-        let words = words(alloc, texts)?;
-        assert_eq!(rt; run(alloc, &words, &mut host), 2);
+        let ended = run_over(alloc, texts, WORKED, b"")?;
+        assert_eq!(rt; ended.code, 2);
         assert_eq!(rt;
-            host.sent(Port::Report),
+            ended.host.sent(Port::Report),
             b"words not understood\n".as_slice()
         );
     }

@@ -1,5 +1,5 @@
 //! Runs of `verify`.
-use crate::runs::{Ended, WORKED, host_with, words};
+use crate::runs::{WORKED, host_with, run_over, verify, words};
 use hrt_base::{NoMemory, Port};
 use hrt_cli::run;
 use std::alloc::Global;
@@ -34,14 +34,6 @@ fn with_line(alloc: Global, number: usize, text: &[u8]) -> Result<Vec<u8>, NoMem
     Ok(proof)
 }
 
-// A run of `verify` on the worked instance.
-fn verify(alloc: Global, proof: &[u8]) -> Result<Ended, NoMemory> {
-    let mut host = host_with(alloc, WORKED, proof)?;
-    let words = words(alloc, &["verify", "i", "q"])?;
-    let code = run(alloc, &words, &mut host);
-    Ok(Ended { code, host })
-}
-
 #[test]
 fn whole_proofs(rt: HostRuntime) -> Result<(), Fail> {
     let alloc = rt.alloc();
@@ -58,7 +50,7 @@ fn whole_proofs(rt: HostRuntime) -> Result<(), Fail> {
         (b"what", 8, b"proof refused Truncated\n"),
     ];
     for (proof, code, report) in cases.iter() {
-        let ended = verify(alloc, proof)?;
+        let ended = verify(alloc, WORKED, proof)?;
         assert_eq!(rt; ended.code, *code);
         assert_eq!(rt; ended.host.sent(Port::Report), *report);
     }
@@ -196,7 +188,7 @@ fn proofs_with_another_line(rt: HostRuntime) -> Result<(), Fail> {
     ];
     for (number, text, code, report) in cases.iter() {
         let proof = with_line(alloc, *number, text)?;
-        let ended = verify(alloc, &proof)?;
+        let ended = verify(alloc, WORKED, &proof)?;
         assert_eq!(rt; ended.host.sent(Port::Report), *report);
         assert_eq!(rt; ended.code, *code);
     }
@@ -208,6 +200,7 @@ fn deleted_rows_of_the_model_are_looked_at(rt: HostRuntime) -> Result<(), Fail> 
     let alloc = rt.alloc();
     let ended = verify(
         alloc,
+        WORKED,
         b"pseudo-Boolean proof version 2.0\nf 7\ndel id 1 2 3 4 5 6 7\nsoli x1 ~x2 x3\noutput NONE\nconclusion NONE\nend pseudo-Boolean proof\n",
     )?;
     assert_eq!(rt; ended.code, 8);
@@ -223,6 +216,7 @@ fn the_greatest_number_is_taken(rt: HostRuntime) -> Result<(), Fail> {
     let alloc = rt.alloc();
     let ended = verify(
         alloc,
+        WORKED,
         b"pseudo-Boolean proof version 2.0\nf 7\nrup +1329227995784915872903807060280344576 x1 >= 0 ;\noutput NONE\nconclusion NONE\nend pseudo-Boolean proof\n",
     )?;
     assert_eq!(rt; ended.code, 0);
@@ -248,11 +242,10 @@ fn a_proof_is_read_after_a_line_that_is_refused(rt: HostRuntime) -> Result<(), F
 #[test]
 fn an_instance_is_refused_before_its_proof(rt: HostRuntime) -> Result<(), Fail> {
     let alloc = rt.alloc();
-    let words = words(alloc, &["verify", "i", "absent"])?;
-    let mut host = host_with(alloc, b"hrt 1\n", b"")?;
-    assert_eq!(rt; run(alloc, &words, &mut host), 3);
+    let ended = run_over(alloc, &["verify", "i", "absent"], b"hrt 1\n", b"")?;
+    assert_eq!(rt; ended.code, 3);
     assert_eq!(rt;
-        host.sent(Port::Report),
+        ended.host.sent(Port::Report),
         b"instance refused line 1 NoEnd\n".as_slice()
     );
     Ok(())

@@ -3,21 +3,35 @@
 ghost use Rattle.std.specs.Prelude.{◌≤◌, length};
 
 use crate::definition::{Chosen, chosen_of, instance_of, pairs_text};
-use crate::runs::{WORKED, audit};
+use crate::instances::instance_in;
 use hrt_base::{NoMemory, PairNo, Port};
-use hrt_reader::{ReadRefusal, read_instance};
+use hrt_cli::run;
+use hrt_host::MemoryHost;
 use pb_rows::Row;
 use rank_tables::Instance;
 use stability_model::Model;
 use std::alloc::Global;
 use std::test::Fail;
 
-// The instance that a short text spells.
-fn instance_in(alloc: Global, text: &[u8]) -> Result<Instance, ReadRefusal> {
-    if text.len() > 1000 {
-        return Err(ReadRefusal::NoMemory);
+// How an audit ended, and what it told.
+#[derive(Drop)]
+struct Ended {
+    code: u8,
+    host: MemoryHost,
+}
+
+// A run of `audit` over an instance and pairs.
+fn audit(alloc: Global, instance: &[u8], pairs: &[u8]) -> Result<Ended, NoMemory> {
+    let mut host = MemoryHost::new(alloc);
+    host.put_file("i", instance)?;
+    host.put_file("q", pairs)?;
+    host.give_room(Port::Report, "", 10_000)?;
+    let mut words = Vec::new(alloc);
+    for word in ["audit", "i", "q"] {
+        words.push(String::from_str(alloc, word)?)?;
     }
-    read_instance(alloc, text)
+    let code = run(alloc, &words, &mut host);
+    Ok(Ended { code, host })
 }
 
 fn rows_of(alloc: Global, inst: &Instance) -> Result<Vec<Row>, NoMemory> {
@@ -99,7 +113,10 @@ fn audits_and_points_are_the_definition(rt: HostRuntime) -> Result<(), Fail> {
 
 #[test]
 fn terms_of_the_worked_instance(rt: HostRuntime) -> Result<(), Fail> {
-    let inst = instance_in(rt.alloc(), WORKED)?;
+    let inst = instance_in(
+        rt.alloc(),
+        b"hrt 1\nresident a: x y\nresident b: x\nhospital x 1: (a b)\nhospital y 1: a\nend\n",
+    )?;
     assert_eq!(rt; inst.model_terms(), 12);
     Ok(())
 }

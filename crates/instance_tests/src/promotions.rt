@@ -3,8 +3,8 @@ ghost use Rattle.std.specs.Prelude.{◌<◌, ◌≤◌, All, IfSome};
 ghost use Rattle.rank_tables.specs.Tables.{IsPairNo};
 
 use crate::definition::{Chosen, Small, instance_of};
+use crate::instances::instance_in;
 use hrt_base::PairNo;
-use hrt_reader::read_instance;
 use promotion_heuristic::promote;
 use rank_tables::Instance;
 use std::test::Fail;
@@ -163,10 +163,7 @@ fn promotes_as_the_steps_do(rt: HostRuntime) -> Result<(), Fail> {
     for number in 0..400 {
         let small = instance_of(number);
         let text = small.text(alloc)?;
-        if text.len() > 1000 {
-            return Err(Fail::from(hrt_base::NoMemory));
-        }
-        let inst = read_instance(alloc, &text)?;
+        let inst = instance_in(alloc, &text)?;
         let pairs = promote(alloc, &inst)?;
         assert_eq!(rt;
             cells_of(&inst, &pairs),

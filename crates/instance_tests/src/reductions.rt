@@ -4,12 +4,10 @@ ghost use Rattle.std.specs.Prelude.{◌≡◌, ◌<◌, ◌≤◌};
 ghost use Rattle.derivation.specs.Deletions.{Deletions};
 
 use crate::definition::{Chosen, Small, instance_of};
+use crate::instances::{claim_of, instance_in};
 use derivation::{Deleted, Derivation};
 use hrt_base::{NoMemory, PairNo};
-use hrt_reader::{ReadRefusal, read_instance};
-use opb_text::formula_of;
 use pair_reduction::reduce;
-use proof_checker::Checker;
 use proof_lines::Claim;
 use rank_tables::Instance;
 use stability_model::Model;
@@ -107,13 +105,6 @@ fn cells_of(inst: &Instance, gone: &Deleted) -> Chosen {
         }
     }
     cells
-}
-
-fn instance_in(alloc: Global, text: &[u8]) -> Result<Instance, ReadRefusal> {
-    if text.len() > 1000 {
-        return Err(ReadRefusal::NoMemory);
-    }
-    read_instance(alloc, text)
 }
 
 // What is deleted of an instance, and the lines of it, ended with no claim.
@@ -246,14 +237,8 @@ fn lines_are_accepted(rt: HostRuntime) -> Result<(), Fail> {
         let text = small.text(alloc)?;
         let inst = instance_in(alloc, &text)?;
         let lines = reduced(alloc, &inst)?.1;
-        if lines.len() > 10_000 {
-            return Err(Fail::from(NoMemory));
-        }
-        let formula = formula_of(alloc, &Model::of(alloc, &inst)?)?;
-        let mut checker = Checker::new(alloc, formula)?;
-        checker.feed(alloc, &lines)?;
         assert_eq!(rt;
-            checker.finish(alloc)?,
+            claim_of(alloc, &inst, &lines)?,
             Claim::Nothing,
             "of instance {number}"
         );

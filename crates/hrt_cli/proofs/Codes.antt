@@ -11,6 +11,7 @@ use Rattle.hrt_reader.specs.Refusal.{Spells}
 use Rattle.hrt_inputs.specs.declared.limit.Limit.TheVariants.{TriedPairs}
 use Rattle.hrt_inputs.specs.Rejections.{Rejection, refused, exceeded, pairs_refused, model_refused, proof_refused, truncated}
 use Rattle.hrt_inputs.specs.Taken.{lists_in, within}
+use Rattle.hrt_inputs.proofs.ReadInstances.{of_within, spelled}
 use Rattle.hrt_cli.specs.declared.status.Status.{Status}
 use Rattle.hrt_cli.specs.declared.status.Status.TheVariants.{Done, Misused, InstanceRefused, ReadFault, WriteFault, NoMemory, LimitExceeded, ProofRefused, AuditNo, Bounded, PairsRefused}
 use Rattle.hrt_cli.specs.Answers.{IsCutShort, LeavesFronts, SendsDue, SendsNothing}

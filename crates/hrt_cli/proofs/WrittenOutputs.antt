@@ -24,7 +24,7 @@ use Rattle.hrt_cli.specs.Requests.{Request}
 use Rattle.hrt_cli.specs.Verdicts.{ComesTo, Files, Verdict, misused, rejected}
 use Rattle.hrt_cli.specs.Statuses.{status_of}
 use Rattle.hrt_cli.specs.Writing.{Writes, WritesAll, WritesFronts, WritesNothing}
-use Rattle.hrt_cli.proofs.ReadOut.{reads_one, rejection_on_files}
+use Rattle.hrt_cli.proofs.ReadOut.{passed_as, reads_one, rejection_on_files}
 use Rattle.hrt_cli.proofs.Runs.{file_before, leaves_nothing, name_before, nothing_due, read_ends, report_open, sent_before, writes_report}
 
 -- ---- a command with outputs

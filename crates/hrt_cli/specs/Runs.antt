@@ -1,5 +1,5 @@
 -- How a run ends, and what stands after it.
-use Rattle.std.specs.Prelude.{◌≡◌, ◌⊎◌, ◌≤◌, ◌<◌, ◌↔◌, ℕ, ◌==◌, ◌||◌, Bool, true, false, not, IsTrue, List, ◌++◌, length, codes, Option, Some, None, IfSome, ℤ, pos, ◌≤ℤ◌}
+use Rattle.std.specs.Prelude.{◌≡◌, ◌⊎◌, ◌<◌, ◌↔◌, ℕ, ◌==◌, ◌||◌, Bool, true, false, not, IsTrue, List, ◌++◌, length, codes, Option, Some, None, IfSome, ℤ, pos, ◌≤ℤ◌}
 use Rattle.std.specs.List.Sorted.{IsStrictlyIncreasing}
 use Rattle.hrt_base.specs.declared.port.Port.{Port}
 use Rattle.hrt_base.specs.declared.port.Port.TheVariants.{Model, Proof, Report}

@@ -3,9 +3,10 @@
 # takes with its lines, the making of the model and of the derivation apart, beside `steps`: the sum, over pairs, of the lengths of
 # the two lists in which a pair stands. It shows that the seconds grow no faster than that sum in these shapes.
 # The lists are drawn, with no ties. So many pairs in 1,000 lists are within the limit on terms only where most hospitals have no posts:
-# one in `every` has them. In the last two each hospital refuses a part of its residents by offers of the others, as many as posts, each
-# made once. In no shape is a hospital with many posts visited many times. No command does this alone, so a program is built
-# around the library in a copy of the crates that it stands on, which takes some minutes at first.
+# one in `every` has them. In the two with one choice for each resident a hospital refuses a part of its residents by offers of the
+# others, as many as posts. The chains have one large hospital, which refuses one resident on each of so many visits: who is refused
+# takes the place elsewhere of another, who has only the large hospital then. No command does this alone, so a program is built around
+# the library in a copy of the crates that it stands on, which takes some minutes at first.
 . "$(dirname "$0")/common.sh"
 mkdir -p "$work/crates/reducing/src"
 cp HANDLES "$work"
@@ -79,10 +80,31 @@ write_instance(path, lists, named, lambda h: 0 if h % every else posts, "", "")
 print(residents * choices * choices + sum(len(list) ** 2 for list in named))
 ' "$@"
 }
+# chained_lists PATH POSTS LINKS: a hospital with so many posts, and for each link one that takes its resident in the place of another
+chained_lists() {
+  python3 -c "$lists_of_pairs"'
+path, posts, links = sys.argv[1], *map(int, sys.argv[2:])
+waiting = [[k + 1, 0] for k in range(links)]
+staying = [[0]] * (posts - links)
+refused = [[0]] + [[0, k + 1] for k in reversed(range(links))]
+lists = waiting + staying + refused
+last = len(lists) - 1
+named = [list(range(len(lists)))] + [[last - k, k] for k in range(links)]
+write_instance(path, lists, named, lambda h: 1 if h else posts, "", "")
+print(sum(len(list) ** 2 for list in lists) + sum(len(list) ** 2 for list in named))
+' "$@"
+}
+# times_of SHAPE..: one line on the instance, whose steps are given first
+times_of() {
+  read -r _ peak _ pairs deleted made reduced <<< "$(measured "$work/crates/reducing/out/reducing" "$work/i.hrt")"
+  printf '%9s %9s %7s %5s %5s %8s %9s %8s %8s %8s %9s\n' "$2" "$3" "$pairs" "$4" "$5" "$deleted" "$1" "$(per 1000000 "$made" 1)" "$(per 1000000 "$reduced" 1)" "$(per "$1" "$reduced" 1)" "$peak"
+}
 printf '%9s %9s %7s %5s %5s %8s %9s %8s %8s %8s %9s\n' residents hospitals pairs posts every deleted steps making seconds us/step 'peak MiB'
 for shape in '1000 1000 10 1 1' '10000 10000 10 1 1' '10000 10000 10 2 1' '200 200 80 1 1' '500 500 80 1 1' '500 500 80 5 1' '112 888 888 5 25' '20000 400 1 25 1' '20000 100 1 100 1'; do
-  steps=$(drawn_lists "$work/i.hrt" $shape)
-  read -r _ peak _ pairs deleted made reduced <<< "$(measured "$work/crates/reducing/out/reducing" "$work/i.hrt")"
   read -r residents hospitals _ posts every <<< "$shape"
-  printf '%9s %9s %7s %5s %5s %8s %9s %8s %8s %8s %9s\n' "$residents" "$hospitals" "$pairs" "$posts" "$every" "$deleted" "$steps" "$(per 1000000 "$made" 1)" "$(per 1000000 "$reduced" 1)" "$(per "$steps" "$reduced" 1)" "$peak"
+  times_of "$(drawn_lists "$work/i.hrt" $shape)" "$residents" "$hospitals" "$posts" "$every"
+done
+for chain in '100 80' '200 160' '400 320' '800 640'; do
+  read -r posts links <<< "$chain"
+  times_of "$(chained_lists "$work/i.hrt" "$posts" "$links")" $((posts + links + 1)) $((links + 1)) "$posts" -
 done

@@ -1,20 +1,23 @@
 -- Notes, worked by hand: which rows they hold, loads that are honest and that aren't, a fresh learned row and its sizes.
-use Rattle.std.specs.Prelude.{◌≡◌, ◌<◌, ◌≤◌, ℕ, ◌+◌, Bool, true, false, if◌then◌else◌, IsTrue, List, [], ◌∷◌, ◌++◌, map, length, flat_map, codes, refl}
+use Rattle.std.specs.Prelude.{◌≡◌, ◌<◌, ◌≤◌, ℕ, ◌+◌, Bool, true, false, if◌then◌else◌, IsTrue, List, [], ◌∷◌, ◌++◌, map, length, flat_map, codes, None, refl}
 use Rattle.std.proofs.Common.{arith, subst, sym, ◌∙◌}
 use Rattle.std.proofs.lemmas.Bool.{true≢false}
-use Rattle.std.proofs.lemmas.List.Elements.{All-from_recursion}
+use Rattle.std.proofs.lemmas.List.Elements.{All-contains, All-from_recursion}
 use Rattle.hrt_base.specs.declared.literal.Lit.{Lit}
 use Rattle.hrt_base.specs.declared.numbered.RowNo.{RowNo}
+use Rattle.hrt_base.specs.declared.literal.Term.{Term}
 use Rattle.pb_rows.specs.Terms.{PlainRow, opposite_lit}
 use Rattle.pb_rows.specs.Rows.{holds, in_normal_form}
-use Rattle.pb_rows.specs.Closure.{IsClosure, IsQuiet, IsSettled, Keeps, Literals, among}
+use Rattle.pb_rows.specs.Closure.{IsClosure, IsQuiet, IsSettled, Keeps, Literals, Propagates, among}
 use Rattle.stability_model.specs.Model.{pair_row, pair_row_no, point_of_pairs}
 use Rattle.proof_lines.specs.Spelling.{row_no}
-use Rattle.proof_lines.specs.declared.note.Note.TheVariants.{Unit as UnitRow, Load, Drop}
-use Rattle.proof_rules.specs.Valid.{Proving}
-use Rattle.proof_rules.specs.Held.{first_held, held_rows}
-use Rattle.proof_rules.specs.Notes.{AreDecisions, Fresh, HaveSizes, HonestLoad, IsBroken, IsTrueNote, LearnedRow, is_greater}
-use Rattle.proof_rules.specs.Told.{NoteAt, held_by, learned_rows, notes_of}
+use Rattle.proof_lines.specs.declared.note.Note.{Note}
+use Rattle.proof_lines.specs.declared.note.Note.TheVariants.{Unit as UnitRow, Bound as BoundRow, Load, Learn, Drop}
+use Rattle.proof_rules.specs.Valid.{Headed, Proving}
+use Rattle.proof_rules.specs.Held.{first_held, held_rows, is_held}
+use Rattle.proof_rules.specs.States.{IsInOrder}
+use Rattle.proof_rules.specs.Notes.{AreDecisions, Asserts, Fresh, HaveSizes, Later, HonestLoad, IsBroken, IsTrueNote, LearnedRow, is_greater}
+use Rattle.proof_rules.specs.Told.{IsTrueIn, NoteAt, held_by, learned_in, learned_rows, notes_of}
 use Rattle.proof_rules.proofs.Learned.{among-all}
 use Rattle.proof_rules.proofs.Worked.{not_x, row, s0, tied, w, x}
 
@@ -212,3 +215,67 @@ greater-prefix = refl
 
 greater-same : is_greater (1 ∷ 5 ∷ []) (1 ∷ 5 ∷ []) ≡ false
 greater-same = refl
+
+-- ---- loads of rows that are no pair's: row 4 is a hospital's, and row 8 stands behind the last pair's
+
+hospital-row : HonestLoad tied (held_rows s0.live (first_held tied)) [] (row_no 4 ∷ []) → ⊥
+hospital-row h =
+    let one : IsBroken tied (point_of_pairs []) (row_no 4) = h.broken 0 (row_no 4) (omega arith) in
+    omega (arith, one.1.0, one.2)
+
+row-behind : HonestLoad tied (held_rows s0.live (first_held tied)) [] (row_no 8 ∷ []) → ⊥
+row-behind h =
+    let one : IsBroken tied (point_of_pairs []) (row_no 8) = h.broken 0 (row_no 8) (omega arith) in
+    omega (arith, one.1.1, one.2)
+
+-- ---- notes of rows that aren't live, and notes before the steps
+
+bound-not_live : IsTrueNote tied s0.live (first_held tied) (BoundRow (row_no 8)) → ⊥
+bound-not_live h = true≢false (sym h)
+
+learned-not_live : IsTrueNote tied s0.live (first_held tied) (Learn (row_no 8) decided (x 3)) → ⊥
+learned-not_live h = absurd (cc (h.1))
+
+early-note : (note : Note) → IsTrueIn tied Headed (first_held tied) note → ⊥
+early-note note h = h
+
+early-learned : learned_in Headed (first_held tied) (Learn (row_no 8) decided (x 3)) ≡ []
+early-learned = refl
+
+-- ---- what a row doesn't assert: another literal, one that it doesn't propagate, and one that it doesn't have
+
+other-literal : Asserts closed learned (not_x 3) → ⊥
+other-literal h = All-contains (λ (t : Term). t.lit ≡ not_x 3 → ⊥) learned.terms h.0 (All-from_recursion (λ (t : Term). t.lit ≡ not_x 3 → ⊥) learned.terms ((λ e. cc), ((λ e. cc), tt))) h.1 h.2
+
+abbrev open_row : PlainRow
+open_row = row (w 1 (x 3) ∷ w 1 (x 4) ∷ []) 1
+
+idle-literal : Asserts closed open_row (x 3) → ⊥
+idle-literal h =
+    All-contains (λ (t : Term). Propagates closed open_row t → ⊥) open_row.terms h.0
+    (All-from_recursion (λ (t : Term). Propagates closed open_row t → ⊥) open_row.terms ((λ p. omega (arith, p.exceeds)), ((λ p. omega (arith, p.exceeds)), tt))) h.1 h.3
+
+abbrev other_row : PlainRow
+other_row = row (w 1 (not_x 2) ∷ []) 0
+
+strange-literal : Asserts closed other_row (x 3) → ⊥
+strange-literal h = All-contains (λ (t : Term). t.lit ≡ x 3 → ⊥) other_row.terms h.0 (All-from_recursion (λ (t : Term). t.lit ≡ x 3 → ⊥) other_row.terms ((λ e. cc), tt)) h.1 h.2
+
+-- ---- the sizes (1) are greater than (0, 3)
+
+nothing-closure : IsClosure [] (among []) (among [])
+nothing-closure = record {
+  quiet = record { has_given = λ l g. g; consistent = λ l t. refl; kept = All-from_recursion (Keeps (among [])) [] tt };
+  least = λ other q l t. absurd (true≢false (sym t));
+}
+
+later : Later 3 (record { held = []; decisions = []; asserts = x 3 }) (record { held = either ∷ []; decisions = decided; asserts = x 3 })
+later = record { sizes = 1 ∷ []; sizes_before = 0 ∷ 3 ∷ []; are = (among [], nothing-closure, refl); were = sizes; greater = refl }
+
+-- ---- a learned row is held, and row numbers begin with 1
+
+learned-held : is_held (record { kept = []; learned = 8 ∷ []; learn_notes = 1 }) 8 ≡ true
+learned-held = refl
+
+number-zero : IsInOrder (record { live = record { number = 0; row = row [] 0 } ∷ []; next = 1; least = None }) → ⊥
+number-zero h = omega (arith, h.0)

@@ -130,3 +130,8 @@ late-comment = (
   where
     blank : Moves worked (Done claim) Blank (Done claim)
     blank = record { leads = refl; owed = tt }
+
+-- ---- a line without a spelling
+
+unread : IsRefusedAt worked (lined (begins ++ codes "pol 1 2 -" ∷ [])) (record { line = 3; why = Syntax })
+unread = (2, refl, inl (Headed, header-moves, (Proving s0, count-moves, refl)))

@@ -14,3 +14,4 @@ pub mod StepByStep
 pub mod StepsBack
 mod WorkedLines
 mod WorkedNotes
+pub mod CutBack

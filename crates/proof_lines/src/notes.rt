@@ -83,15 +83,30 @@ fn push_spelling(note: &Note, out: &mut Vec<u8>) -> Result<(), NoMemory>
     }
 }
 
-/// Appends a note with its line feed. It has to be a note that a text spells. What is written reads as the note.
-#[tactic(auto, using(row_text::proofs::Appended::stays_longer, crate::proofs::Spelled::spelled_note_back))]
-pub fn push_note(note: &Note, out: &mut Vec<u8>) -> Result<(), NoMemory>
+/// Appends a note with its line feed, or a front of them.
+#[tactic(auto, using(row_text::proofs::Appended::stays_longer))]
+fn push_in_pieces(note: &Note, out: &mut Vec<u8>) -> Result<(), NoMemory>
     requires spelled { (text : List ℕ) × (note_of text ≡ Some note.now) }
     ensures ok { OnOk result (out.new.items ≡ out.old.items ++ note_text note.now) }
     ensures err { OnErr result (StaysInFront out.old.items out.new.items) }
-    ensures read_back { length (note_text note.now) ≤ most_bytes → note_of (note_text note.now) ≡ Some note.now }
 {
     push_spelling(note, out)?;
     out.push(b'\n')?;
+    Ok(())
+}
+
+/// Appends a note with its line feed. It has to be a note that a text spells. What is written reads as the note.
+#[tactic(auto, using(crate::proofs::CutBack::cut_back, crate::proofs::Spelled::spelled_note_back))]
+pub fn push_note(note: &Note, out: &mut Vec<u8>) -> Result<(), NoMemory>
+    requires spelled { (text : List ℕ) × (note_of text ≡ Some note.now) }
+    ensures ok { OnOk result (out.new.items ≡ out.old.items ++ note_text note.now) }
+    ensures err { OnErr result (out.new.items ≡ out.old.items) }
+    ensures read_back { length (note_text note.now) ≤ most_bytes → note_of (note_text note.now) ≡ Some note.now }
+{
+    let length = out.len();
+    if push_in_pieces(note, out).is_err() {
+        out.truncate(length);
+        return Err(NoMemory);
+    }
     Ok(())
 }

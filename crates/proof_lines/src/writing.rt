@@ -205,16 +205,32 @@ fn push_spelling(line: &Line, out: &mut Vec<u8>) -> Result<(), NoMemory>
     }
 }
 
-/// Appends a line with its line feed. It has to be a line that a text spells. What is written reads as the line.
-#[tactic(auto, using(row_text::proofs::Appended::stays_longer, crate::proofs::Spelled::spelled_line_back))]
-pub fn push_line(line: &Line, out: &mut Vec<u8>) -> Result<(), NoMemory>
+/// Appends a line with its line feed, or a front of them.
+#[tactic(auto, using(row_text::proofs::Appended::stays_longer))]
+fn push_in_pieces(line: &Line, out: &mut Vec<u8>) -> Result<(), NoMemory>
     requires spelled { (text : List ℕ) × (read_line text ≡ Some line.now) }
     requires small { is_small_line line.now ≡ true }
     ensures ok { OnOk result (out.new.items ≡ out.old.items ++ line_text line.now) }
     ensures err { OnErr result (StaysInFront out.old.items out.new.items) }
-    ensures read_back { length (line_text line.now) ≤ most_bytes → read_line (spelling line.now) ≡ Some line.now }
 {
     push_spelling(line, out)?;
     out.push(b'\n')?;
+    Ok(())
+}
+
+/// Appends a line with its line feed. It has to be a line that a text spells. What is written reads as the line.
+#[tactic(auto, using(crate::proofs::CutBack::cut_back, crate::proofs::Spelled::spelled_line_back))]
+pub fn push_line(line: &Line, out: &mut Vec<u8>) -> Result<(), NoMemory>
+    requires spelled { (text : List ℕ) × (read_line text ≡ Some line.now) }
+    requires small { is_small_line line.now ≡ true }
+    ensures ok { OnOk result (out.new.items ≡ out.old.items ++ line_text line.now) }
+    ensures err { OnErr result (out.new.items ≡ out.old.items) }
+    ensures read_back { length (line_text line.now) ≤ most_bytes → read_line (spelling line.now) ≡ Some line.now }
+{
+    let length = out.len();
+    if push_in_pieces(line, out).is_err() {
+        out.truncate(length);
+        return Err(NoMemory);
+    }
     Ok(())
 }

@@ -74,7 +74,8 @@ impl<'a> Model<'a> {
 
     /// How many rows there are, at most 140,000.
     pub fn row_count(&self) -> u32
-        ensures { result ≡ length (rows self.now) }
+        ensures count { result ≡ length (rows self.now) }
+        ensures few { result ≤ 140000 }
     {
         self.rows.len() as u32
     }

@@ -8,7 +8,7 @@ use Rattle.derivation.proofs.start.first_kept.Goals as goal
 pub overflow_sub-before_pairs : goal.overflow_sub-before_pairs
 overflow_sub-before_pairs c =
     let pairs : c.pairs.result ≡ pair_count c.args.model.now = c.pairs.ensures.count ∙ ap pair_count c.instance.ensures in
-    omega (arith, pairs, c.row_count.ensures, rows_count c.args.model.now)
+    omega (arith, pairs, c.row_count.ensures.count, rows_count c.args.model.now)
 
 pub loop-done-preserved : goal.loop-done-preserved
 loop-done-preserved c =
@@ -17,5 +17,5 @@ loop-done-preserved c =
 pub returns : goal.returns
 returns c =
     let pairs : c.pairs.result ≡ pair_count c.args.model.now = c.pairs.ensures.count ∙ ap pair_count c.instance.ensures in
-    let count : c.loop-done.done ≡ pair_row_no c.args.model.now 0 = omega (arith, pairs, c.row_count.ensures, rows_count c.args.model.now, c.loop-done.auto.done-end, c.loop-done-test.false) in
+    let count : c.loop-done.done ≡ pair_row_no c.args.model.now 0 = omega (arith, pairs, c.row_count.ensures.count, rows_count c.args.model.now, c.loop-done.auto.done-end, c.loop-done-test.false) in
     c.loop-done.invariant ∙ ap numbers_to count

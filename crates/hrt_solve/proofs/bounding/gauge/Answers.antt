@@ -28,4 +28,4 @@ pub returns-clause-next : goal.returns-clause-next
 returns-clause-next c =
     next_small c.args.inst.now c.in_ok-gone.gone c.in_ok-row.row c.args.deriv.now c.reduce.new.deriv c.derive_bound.new.deriv c.requires.first c.reduce.ensures.goes_on c.in_ok-gone.ensures.holds c.in_ok-row.ensures.bound
     (subst (λ (l : Lists). MakesFew (pair_count l) c.args.deriv.now c.reduce.new.deriv) (ap (λ (d : Derived). d.lists) c.requires.first) c.reduce.ensures.few) (omega (arith, c.pairs-pairs.ensures.count, c.pairs-pairs.ensures.few))
-    (subst (λ (l : Lists). length (rows l) < 2 ^ 32) c.requires.model (omega (arith, c.row_count-rows.ensures)))
+    (subst (λ (l : Lists). length (rows l) < 2 ^ 32) c.requires.model (omega (arith, c.row_count-rows.ensures.count)))

@@ -1,4 +1,5 @@
 pub mod Digits
+pub mod Fronts
 pub mod Numerals
 pub mod Pieces
 mod WorkedCalls

@@ -6,10 +6,9 @@ use Rattle.hrt_base.specs.declared.port.Port.{Port}
 use Rattle.hrt_base.specs.declared.port.Port.TheVariants.{Instance, Pairs, Model, Proof, Report, ModelTwo, ProofTwo}
 use Rattle.hrt_base.specs.declared.host.Begun.{Begun}
 use Rattle.hrt_base.specs.declared.host.Begun.TheVariants.{Idle, Reading, Writing}
-use Rattle.hrt_base.specs.Calls.{NotWritten, Sealed, Sent, Started}
+use Rattle.hrt_base.specs.Calls.{NotWritten, Sealed, Sent, SentFront, Started}
 use Rattle.hrt_base.specs.World.{World, Content, appended, put, sealed, started}
 use Rattle.rank_tables.specs.Instance.{Lists}
-use Rattle.opb_text.specs.Sending.{SentFront}
 use Rattle.opb_text.specs.Spelling.{model_text}
 use Rattle.promotion_heuristic.specs.Promotion.{promotion}
 use Rattle.hrt_solve.specs.declared.ends.BoundEnd.{BoundEnd}

@@ -5,12 +5,11 @@ use Rattle.hrt_base.specs.declared.port.Port.{Port}
 use Rattle.hrt_base.specs.declared.port.Port.TheVariants.{Instance, Pairs, Model, Proof, Report}
 use Rattle.hrt_base.specs.declared.host.Begun.{Begun}
 use Rattle.hrt_base.specs.declared.host.Begun.TheVariants.{Idle, Reading, Writing}
-use Rattle.hrt_base.specs.Calls.{AtStart, NotWritten, Sealed, Sent, SentPart, Started}
+use Rattle.hrt_base.specs.Calls.{AtStart, NotWritten, Sealed, Sent, SentFront, SentPart, Started}
 use Rattle.hrt_base.specs.World.{World, port_no, put}
 use Rattle.hrt_base.proofs.Pieces.{port_no-injective, put_here}
 use Rattle.rank_tables.specs.Instance.{Lists}
 use Rattle.pb_rows.specs.Formula.{Formula}
-use Rattle.opb_text.specs.Sending.{SentFront}
 use Rattle.opb_text.specs.Spelling.{model_text}
 use Rattle.proof_lines.specs.declared.line.Claim.{Claim}
 use Rattle.hrt_solve.specs.Writing.{SentBoth, SentFrontBehind, StopsWriting}

@@ -1,7 +1,8 @@
 // The real host. It tells no names and no bytes.
-ghost use Rattle.std.specs.Prelude.{◌≡◌, ◌≤◌, length, IfSome};
+ghost use Rattle.std.specs.Prelude.{◌≡◌, ◌<◌, ◌≤◌, ◌↔◌, [], length, take, is_err, IfOk, IfSome, OnOk, OnErr};
 ghost use Rattle.std.specs.Bool.{OnTrue, OnFalse};
-ghost use Rattle.hrt_base.specs.Calls.{AtStart};
+ghost use Rattle.hrt_base.specs.Calls.{AtStart, NotRead, NotWritten, Opened, Started, Sealed, Taken, Sent};
+ghost use Rattle.hrt_host.specs.Plan.{faults_after};
 
 use crate::count::{fault, place};
 use hrt_base::{Begun, Failed, Host, Port};
@@ -170,7 +171,12 @@ impl Host for RealHost {
 
     ghost world = { real_world };
 
-    fn begin_read(&mut self, port: Port, name: &str) -> Result<(), Failed> {
+    fn begin_read(&mut self, port: Port, name: &str) -> Result<(), Failed>
+        requires { (real_world self.old).begun port ≡ Begun.Idle }
+        ensures opened { OnOk result (Opened ⊥ port name.now (real_world self.old) (real_world self.new)) }
+        ensures failed { OnErr result (NotRead ⊥ (real_world self.old) (real_world self.new)) }
+        ensures counts { (real_world self.new).read_faults ≡ faults_after (is_err result) (real_world self.old).read_faults }
+    {
         match fs::open(&self.rt, name) {
             Ok(file) => {
                 let gate = &mut self.gates[place(port)];
@@ -181,7 +187,15 @@ impl Host for RealHost {
         }
     }
 
-    fn read(&mut self, port: Port, buffer: &mut [u8]) -> Result<usize, Failed> {
+    fn read(&mut self, port: Port, buffer: &mut [u8]) -> Result<usize, Failed>
+        requires begun { (real_world self.old).begun port ≡ Begun.Reading }
+        requires room { 0 < length buffer.old }
+        ensures count { IfOk result (λ n. n ≤ length buffer.new) }
+        ensures taken { IfOk result (λ n. Taken ⊥ port (take n buffer.new) (real_world self.old) (real_world self.new)) }
+        ensures end { ⊥ → IfOk result (λ n. (n ≡ 0) ↔ ((real_world self.old).content.rest port ≡ [])) }
+        ensures failed { OnErr result (NotRead ⊥ (real_world self.old) (real_world self.new)) }
+        ensures counts { (real_world self.new).read_faults ≡ faults_after (is_err result) (real_world self.old).read_faults }
+    {
         let moved = self.gates[place(port)].read(buffer);
         match moved {
             Some(count) => Ok(count),
@@ -189,7 +203,12 @@ impl Host for RealHost {
         }
     }
 
-    fn begin_write(&mut self, port: Port, name: &str) -> Result<(), Failed> {
+    fn begin_write(&mut self, port: Port, name: &str) -> Result<(), Failed>
+        requires { (real_world self.old).begun port ≡ Begun.Idle }
+        ensures started { OnOk result (Started ⊥ port name.now (real_world self.old) (real_world self.new)) }
+        ensures failed { OnErr result (NotWritten ⊥ (real_world self.old) (real_world self.new)) }
+        ensures counts { (real_world self.new).write_faults ≡ faults_after (is_err result) (real_world self.old).write_faults }
+    {
         match fs::create(&self.rt, name) {
             Ok(file) => {
                 let gate = &mut self.gates[place(port)];
@@ -200,7 +219,15 @@ impl Host for RealHost {
         }
     }
 
-    fn write(&mut self, port: Port, bytes: &[u8]) -> Result<usize, Failed> {
+    fn write(&mut self, port: Port, bytes: &[u8]) -> Result<usize, Failed>
+        requires begun { (real_world self.old).begun port ≡ Begun.Writing }
+        requires some { 0 < length bytes.now }
+        ensures count { IfOk result (λ n. (0 < n) × (n ≤ length bytes.now)) }
+        ensures sent { IfOk result (λ n. Sent ⊥ port (take n bytes.now) (real_world self.old) (real_world self.new)) }
+        ensures failed { OnErr result (NotWritten ⊥ (real_world self.old) (real_world self.new)) }
+        ensures whole { IfOk result (λ n. n ≡ length bytes.now) }
+        ensures counts { (real_world self.new).write_faults ≡ faults_after (is_err result) (real_world self.old).write_faults }
+    {
         let gate = &mut self.gates[place(port)];
         let written = gate.write(&self.rt, bytes);
         if !written {
@@ -209,7 +236,12 @@ impl Host for RealHost {
         Ok(bytes.len())
     }
 
-    fn seal(&mut self, port: Port) -> Result<(), Failed> {
+    fn seal(&mut self, port: Port) -> Result<(), Failed>
+        requires { (real_world self.old).begun port ≡ Begun.Writing }
+        ensures sealed { OnOk result (Sealed ⊥ port (real_world self.old) (real_world self.new)) }
+        ensures failed { OnErr result (NotWritten ⊥ (real_world self.old) (real_world self.new)) }
+        ensures counts { (real_world self.new).write_faults ≡ faults_after (is_err result) (real_world self.old).write_faults }
+    {
         let gate = &mut self.gates[place(port)];
         let closed = gate.close(&self.rt);
         if !closed {

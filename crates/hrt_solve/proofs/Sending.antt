@@ -5,14 +5,13 @@ use Rattle.hrt_base.specs.declared.numbered.PairNo.{PairNo}
 use Rattle.hrt_base.specs.declared.port.Port.{Port}
 use Rattle.hrt_base.specs.declared.port.Port.TheVariants.{Model as ModelPort, Proof as ProofPort}
 use Rattle.hrt_base.specs.World.{World}
-use Rattle.hrt_base.specs.Calls.{NotWritten, Sent}
+use Rattle.hrt_base.specs.Calls.{NotWritten, Sent, SentFront}
 use Rattle.hrt_base.proofs.Pieces.{sent_failed}
 use Rattle.rank_tables.specs.Instance.{Lists}
 use Rattle.rank_tables.specs.Tables.{numbers_of}
 use Rattle.promotion_heuristic.specs.Promotion.{promotion}
-use Rattle.opb_text.specs.Sending.{SentFront}
 use Rattle.opb_text.specs.Spelling.{model_text}
-use Rattle.opb_text.proofs.Fronts.{part_front}
+use Rattle.hrt_base.proofs.Fronts.{part_front}
 use Rattle.hrt_solve.specs.declared.ends.BoundEnd.{BoundEnd}
 use Rattle.hrt_solve.specs.declared.ends.SolveEnd.{SolveEnd}
 use Rattle.hrt_solve.specs.Gauged.{AreNumbersOf, IsMost, bound_claim, found_claim}

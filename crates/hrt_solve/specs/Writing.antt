@@ -8,7 +8,7 @@ use Rattle.rank_tables.specs.Instance.{Lists}
 use Rattle.rank_tables.specs.Stability.{is_weakly_stable}
 use Rattle.rank_tables.specs.Tables.{numbers_of}
 use Rattle.stability_model.specs.Model.{formula}
-use Rattle.opb_text.specs.Sending.{SentFront}
+use Rattle.hrt_base.specs.Calls.{SentFront}
 use Rattle.opb_text.specs.Spelling.{model_text}
 use Rattle.proof_lines.specs.declared.line.Claim.{Claim}
 use Rattle.proof_rules.specs.Texts.{IsValidText}

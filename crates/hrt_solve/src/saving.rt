@@ -1,7 +1,6 @@
 // A model and a proof of it, written and sealed.
 ghost use Rattle.std.specs.Prelude.{◌≡◌, IsErrOf, OnErr, OnOk};
-ghost use Rattle.hrt_base.specs.Calls.{Rose};
-ghost use Rattle.opb_text.specs.Sending.{SentFront};
+ghost use Rattle.hrt_base.specs.Calls.{Rose, SentFront};
 ghost use Rattle.opb_text.specs.Spelling.{model_text};
 ghost use Rattle.hrt_solve.specs.Writing.{SentBoth, SentInPart, SentWhole};
 
@@ -24,7 +23,7 @@ fn save_model<H: Host>(alloc: Global, model: &Model, host: &mut H) -> Result<(),
 }
 
 // Writes the proof and seals it.
-#[tactic(auto, using(opb_text::proofs::Fronts::part_front))]
+#[tactic(auto, using(hrt_base::proofs::Fronts::part_front))]
 fn save_proof<H: Host>(deriv: &mut Derivation, host: &mut H) -> Result<(), WriteEnd>
     requires { (H.world host.old).begun Port.Proof ≡ Begun.Writing }
     ensures sent { OnOk result (SentWhole H.told Port.Proof deriv.old.pending (H.world host.old) (H.world host.new)) }

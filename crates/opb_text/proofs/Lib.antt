@@ -1,4 +1,4 @@
-pub mod Fronts
+mod SentLines
 mod ModelText
 mod Within
 mod Taking

@@ -1,15 +1,8 @@
--- Texts of which a front was sent, and the parts of a model's text.
-use Rattle.std.specs.Prelude.{ℕ, zero, suc, List, [], ◌++◌, take, if◌then◌else◌}
-use Rattle.hrt_base.specs.declared.port.Port.{Port}
-use Rattle.hrt_base.specs.World.{World}
-use Rattle.hrt_base.specs.Calls.{Sent}
+-- The parts of a model's text.
+use Rattle.std.specs.Prelude.{ℕ, zero, suc, List, [], ◌++◌, if◌then◌else◌}
 use Rattle.rank_tables.specs.Instance.{Lists}
 use Rattle.stability_model.specs.Model.{hospital_has_pair, hospital_row, pair_row, resident_has_pair, resident_row}
 use Rattle.opb_text.specs.Spelling.{canonical, row_line}
-
--- a front of a text was written on a port, and nothing else was done
-pub record SentFront (told : Type 0) (port : Port) (text : List ℕ) (old new : World) : Type 0 where
-  pub front : (k : ℕ) × Sent told port (take k text) old new
 
 -- ---- the lines of rows: of a resident, of a hospital and of a pair
 

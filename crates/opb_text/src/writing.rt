@@ -1,12 +1,12 @@
 // Writing a model in its canonical spelling.
 ghost use Rattle.std.specs.Prelude.{◌≡◌, ◌<◌, ◌≤◌, length, OnOk, OnErr, IsErrOf};
-ghost use Rattle.hrt_base.specs.Calls.{Rose, Sent};
+ghost use Rattle.hrt_base.specs.Calls.{Rose, Sent, SentFront};
 ghost use Rattle.rank_tables.specs.Instance.{pair_count};
 ghost use Rattle.rank_tables.specs.Tables.{IsPairNo};
 ghost use Rattle.rank_tables.specs.WellFormed.{IsWellFormed, most_pairs};
 ghost use Rattle.stability_model.specs.Model.{formula, objective, rows};
 ghost use Rattle.opb_text.specs.Refusal.{Spells};
-ghost use Rattle.opb_text.specs.Sending.{SentFront, hospital_line, hospital_lines, pair_line, pair_lines, resident_line, resident_lines};
+ghost use Rattle.opb_text.specs.Sending.{hospital_line, hospital_lines, pair_line, pair_lines, resident_line, resident_lines};
 ghost use Rattle.opb_text.specs.Spelling.{header_line, model_text, objective_line, row_line, written_with};
 
 use crate::formula::objective_of;
@@ -34,7 +34,7 @@ pub fn write_model<H: Host>(alloc: Global, model: &Model, host: &mut H) -> Resul
 }
 
 // Writes a text.
-#[tactic(auto, using(crate::proofs::Fronts::part_front))]
+#[tactic(auto, using(hrt_base::proofs::Fronts::part_front))]
 fn write_text<H: Host>(host: &mut H, text: &[u8]) -> Result<(), WriteEnd>
     requires { (H.world host.old).begun Port.Model ≡ Begun.Writing }
     ensures sent { OnOk result (Sent H.told Port.Model text.now (H.world host.old) (H.world host.new)) }
@@ -45,7 +45,7 @@ fn write_text<H: Host>(host: &mut H, text: &[u8]) -> Result<(), WriteEnd>
     Ok(())
 }
 
-#[tactic(auto, using(crate::proofs::Fronts::none_front))]
+#[tactic(auto, using(hrt_base::proofs::Fronts::none_front))]
 fn write_header<H: Host>(alloc: Global, model: &Model, host: &mut H) -> Result<(), WriteEnd>
     requires { (H.world host.old).begun Port.Model ≡ Begun.Writing }
     ensures sent { OnOk result (Sent H.told Port.Model (header_line (pair_count model.now) (length (rows model.now))) (H.world host.old) (H.world host.new)) }
@@ -57,7 +57,7 @@ fn write_header<H: Host>(alloc: Global, model: &Model, host: &mut H) -> Result<(
     write_text(host, &text)
 }
 
-#[tactic(auto, using(crate::proofs::Fronts::none_front))]
+#[tactic(auto, using(hrt_base::proofs::Fronts::none_front))]
 fn write_objective<H: Host>(alloc: Global, model: &Model, host: &mut H) -> Result<(), WriteEnd>
     requires { (H.world host.old).begun Port.Model ≡ Begun.Writing }
     ensures sent { OnOk result (Sent H.told Port.Model (objective_line (objective model.now)) (H.world host.old) (H.world host.new)) }

@@ -3,7 +3,8 @@
 ghost use Rattle.std.specs.Prelude.{◌≡◌};
 ghost use Rattle.proof_lines.specs.FirstLine.{is_blank_text};
 
-use crate::first::{MOST_BYTES, without_return};
+use crate::first::MOST_BYTES;
+use hrt_text::without_return;
 use row_text::next_token;
 
 /// Whether the bytes are a blank line without its line feed.

@@ -8,22 +8,11 @@ ghost use Rattle.proof_lines.specs.Spelling.{read_line};
 use crate::claims::has_words;
 use crate::reading::read_tokens;
 use crate::{Line, LineRefusal};
+use hrt_text::without_return;
 use std::alloc::Global;
 
 /// The longest line, with its line feed.
 pub const MOST_BYTES: usize = 16_777_216;
-
-/// A line without the carriage return at its end.
-pub fn without_return(line: &[u8]) -> &[u8]
-    ensures { result.now ≡ without_return line.now }
-{
-    let len = line.len();
-    if len > 0 && line[len - 1] == b'\r' {
-        &line[..len - 1]
-    } else {
-        line
-    }
-}
 
 // What the bytes before a line feed say.
 fn read_line(alloc: Global, text: &[u8]) -> Result<Line, LineRefusal>

@@ -5,10 +5,11 @@ ghost use Rattle.proof_lines.specs.Notes.{learn_from, note_of, read_front, read_
 ghost use Rattle.row_text.specs.Numbers.{read_literal, read_variable};
 ghost use Rattle.row_text.specs.Tokens.{tokens};
 
-use crate::first::{MOST_BYTES, without_return};
+use crate::first::MOST_BYTES;
 use crate::items::{read_ids, read_row_no};
 use crate::{Lits, Note, Vars};
 use hrt_base::{Lit, NoMemory, RowNo};
+use hrt_text::without_return;
 use row_text::{next_token, read_literal, read_variable};
 use std::alloc::Global;
 

@@ -1,5 +1,5 @@
 use Rattle.std.proofs.Common.{inr}
-use Rattle.opb_text.proofs.Fronts.{on_err}
+use Rattle.hrt_base.proofs.Fronts.{on_err}
 use Rattle.hrt_cli.proofs.BegunOutputs.{model_fronts, model_unsealed}
 use Rattle.hrt_cli.proofs.modeling.save_model.Goals as goal
 

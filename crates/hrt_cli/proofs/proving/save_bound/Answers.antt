@@ -1,5 +1,5 @@
 use Rattle.std.proofs.Common.{inl}
-use Rattle.opb_text.proofs.Fronts.{on_err}
+use Rattle.hrt_base.proofs.Fronts.{on_err}
 use Rattle.hrt_cli.proofs.BegunOutputs.{bound_saved, saved_in_part}
 use Rattle.hrt_cli.proofs.proving.save_bound.Goals as goal
 

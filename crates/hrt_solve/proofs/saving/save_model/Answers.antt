@@ -1,4 +1,4 @@
-use Rattle.opb_text.proofs.Fronts.{on_err}
+use Rattle.hrt_base.proofs.Fronts.{on_err}
 use Rattle.hrt_solve.proofs.Sending.{seal_failed}
 use Rattle.hrt_solve.proofs.saving.save_model.Goals as goal
 

@@ -1,4 +1,4 @@
-use Rattle.opb_text.proofs.Fronts.{on_err}
+use Rattle.hrt_base.proofs.Fronts.{on_err}
 use Rattle.hrt_solve.specs.Writing.{IsQuickText}
 use Rattle.hrt_solve.proofs.Sending.{in_part, quick_text, solves}
 use Rattle.hrt_solve.proofs.solving.quick.Goals as goal

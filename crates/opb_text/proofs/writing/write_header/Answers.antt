@@ -1,4 +1,4 @@
-use Rattle.opb_text.proofs.Fronts.{none_front, on_err}
+use Rattle.hrt_base.proofs.Fronts.{none_front, on_err}
 use Rattle.opb_text.proofs.writing.write_header.Goals as goal
 
 pub returns-in_err-text-clause-part : goal.returns-in_err-text-clause-part

@@ -1,7 +1,8 @@
 use Rattle.std.proofs.Common.{◌<◌, length, ap, arith}
 use Rattle.rank_tables.specs.Instance.{Lists}
 use Rattle.opb_text.specs.Sending.{hospital_line}
-use Rattle.opb_text.proofs.Fronts.{line_sent, line_front, on_err}
+use Rattle.hrt_base.proofs.Fronts.{on_err}
+use Rattle.opb_text.proofs.SentLines.{line_sent, line_front}
 use Rattle.opb_text.proofs.writing.write_hospital_rows.Goals as goal
 
 pub loop-h-preserved : goal.loop-h-preserved

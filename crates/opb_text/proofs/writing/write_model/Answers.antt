@@ -1,6 +1,6 @@
 use Rattle.std.proofs.Common.{sym}
 use Rattle.hrt_base.proofs.Pieces.{sent_more}
-use Rattle.opb_text.proofs.Fronts.{front_as, front_longer, front_then, on_err, sent_as}
+use Rattle.hrt_base.proofs.Fronts.{front_as, front_longer, front_then, on_err, sent_as}
 use Rattle.opb_text.proofs.ModelBack.{model_back}
 use Rattle.opb_text.proofs.ModelText.{text_parts}
 use Rattle.opb_text.proofs.writing.write_model.Goals as goal

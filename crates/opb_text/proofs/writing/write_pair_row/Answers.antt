@@ -1,7 +1,7 @@
 use Rattle.std.proofs.Common.{◌≡◌, ◌∙◌, pos, ap, arith}
 use Rattle.std.proofs.lemmas.Result.{on_ok_weaker, on_err_weaker}
 use Rattle.rank_tables.specs.Instance.{Lists, capacity_of, pair_at}
-use Rattle.opb_text.proofs.Fronts.{front_as, none_front, on_err, sent_as}
+use Rattle.hrt_base.proofs.Fronts.{front_as, none_front, on_err, sent_as}
 use Rattle.opb_text.proofs.ModelText.{pair_spelled}
 use Rattle.opb_text.proofs.Passed.{passed}
 use Rattle.opb_text.proofs.writing.write_pair_row.Goals as goal

@@ -2,8 +2,10 @@ use Rattle.std.proofs.Common.{ℕ, ◌<◌, suc, ap, add-one, subst, arith}
 use Rattle.hrt_base.specs.declared.port.Port.TheVariants.{Model}
 use Rattle.hrt_base.specs.Calls.{Sent}
 use Rattle.rank_tables.specs.Instance.{pair_count}
-use Rattle.opb_text.specs.Sending.{SentFront, pair_line}
-use Rattle.opb_text.proofs.Fronts.{line_sent, line_front, on_err}
+use Rattle.hrt_base.specs.Calls.{SentFront}
+use Rattle.opb_text.specs.Sending.{pair_line}
+use Rattle.hrt_base.proofs.Fronts.{on_err}
+use Rattle.opb_text.proofs.SentLines.{line_sent, line_front}
 use Rattle.opb_text.proofs.writing.write_pair_rows.Goals as goal
 
 pub loop-k-preserved : goal.loop-k-preserved

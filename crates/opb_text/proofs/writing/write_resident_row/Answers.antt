@@ -1,6 +1,6 @@
 use Rattle.std.proofs.Common.{refl}
 use Rattle.std.proofs.lemmas.Result.{on_ok_weaker, on_err_weaker}
-use Rattle.opb_text.proofs.Fronts.{front_as, none_front, on_err, sent_as}
+use Rattle.hrt_base.proofs.Fronts.{front_as, none_front, on_err, sent_as}
 use Rattle.opb_text.proofs.ModelText.{resident_spelled}
 use Rattle.opb_text.proofs.writing.write_resident_row.Goals as goal
 

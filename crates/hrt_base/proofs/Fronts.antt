@@ -1,13 +1,11 @@
 -- Texts of which a front was sent.
-use Rattle.std.proofs.Common.{◌≡◌, ℕ, zero, suc, ◌+◌, ◌<◌, min, inl, inr, List, [], ◌++◌, length, take, sym, ap, subst, ◌∙◌, add-one, append_assoc, arith, Result, Ok, Err, OnErr}
-use Rattle.std.proofs.lemmas.Bool.{cases_eq}
-use Rattle.std.proofs.lemmas.List.{append-nil, take-append-le, take_min}
+use Rattle.std.proofs.Common.{◌≡◌, ℕ, ◌+◌, min, List, ◌++◌, length, take, sym, subst, ◌∙◌, arith, Result, Ok, Err, OnErr}
+use Rattle.std.proofs.lemmas.List.{take-append-le, take_min}
 use Rattle.std.proofs.Math.Seq.{take-append-add}
 use Rattle.hrt_base.specs.declared.port.Port.{Port}
 use Rattle.hrt_base.specs.World.{World}
-use Rattle.hrt_base.specs.Calls.{Sent, SentPart}
+use Rattle.hrt_base.specs.Calls.{Sent, SentFront, SentPart}
 use Rattle.hrt_base.proofs.Pieces.{sent_more, sent_none}
-use Rattle.opb_text.specs.Sending.{SentFront, lines_to}
 
 pub none_front : (told : Type 0) (port : Port) (text : List ℕ) (w : World) → SentFront told port text w w
 none_front told port text w = record { front = (0, sent_none told port w) }
@@ -34,26 +32,6 @@ pub record BeginsWith (front whole : List ℕ) : Type 0 where
 
 pub front_of : (told : Type 0) (port : Port) (a whole : List ℕ) (w u : World) → BeginsWith a whole → SentFront told port a w u → SentFront told port whole w u
 front_of told port a whole w u begins front = subst (λ (l : List ℕ). SentFront told port l w u) (sym begins.is) (front_longer told port a begins.rest w u front)
-
--- ---- a text for each number
-
-pub line_sent : (told : Type 0) (port : Port) (line : ℕ → List ℕ) (k : ℕ) (w v u : World) → Sent told port (lines_to line k) w v → Sent told port (line k) v u
-    → Sent told port (lines_to line (k + 1)) w u
-line_sent told port line k w v u first second = rw add-one (sent_more told port (lines_to line k) (line k) w v u first second)
-
-first_lines : (line : ℕ → List ℕ) (k n : ℕ) → k < n → BeginsWith (lines_to line k ++ line k) (lines_to line n)
-first_lines line k zero h = absurd (omega arith)
-first_lines line k (suc n) h = elim (cases_eq n k) [
-  | inl same ↦ record { rest = []; is = subst (λ (j : ℕ). lines_to line n ++ line n ≡ (lines_to line j ++ line j) ++ []) same (sym (append-nil (lines_to line n ++ line n))) }
-  | inr other ↦
-      let before = first_lines line k n (omega arith) in
-      record { rest = before.rest ++ line n; is = ap (λ (l : List ℕ). l ++ line n) before.is ∙ append_assoc (lines_to line k ++ line k) before.rest (line n) }
-]
-
-pub line_front : (told : Type 0) (port : Port) (line : ℕ → List ℕ) (k n : ℕ) (w v u : World) → k < n → Sent told port (lines_to line k) w v → SentFront told port (line k) v u
-    → SentFront told port (lines_to line n) w u
-line_front told port line k n w v u h first second =
-    front_of told port (lines_to line k ++ line k) (lines_to line n) w u (first_lines line k n h) (front_then told port (lines_to line k) (line k) w v u first second)
 
 -- ---- what is so after any refusal
 

@@ -11,6 +11,7 @@ pub record Drafted : Type 0 where
   pub formula : Formula
   pub begun : Bool
 
+-- the draft that these statements make together
 abbrev pub drafted : List Statement → Drafted
 drafted said = record { formula = formula_said said; begun = has_begun said }
 

@@ -6,9 +6,11 @@ use Rattle.pb_rows.specs.Points.{IsCovered}
 use Rattle.pb_rows.specs.Normal.{sizes}
 use Rattle.pb_rows.specs.Formula.{Formula}
 
+-- a formula has at most this many variables
 abbrev pub most_variables : ℕ
 most_variables = 100000
 
+-- a formula has at most this many rows
 abbrev pub most_rows : ℕ
 most_rows = 1000000
 

@@ -31,6 +31,7 @@ row_refusal k rows row =
     else if nat_le most_rows rows then Some (TooManyRows k)
     else None
 
+-- the refusal of line k, spelled or not, where `begun` tells whether anything was said before it and `rows` how many rows were
 abbrev pub statement_refusal : ℕ → Bool → ℕ → Option Statement → Option OpbRefusal
 statement_refusal k begun rows None = Some (Syntax k)
 statement_refusal k begun rows (Some nothing) = None
@@ -53,6 +54,7 @@ abbrev pub first_refusal : List Line → List Line → Option OpbRefusal
 first_refusal before [] = None
 first_refusal before (line ∷ lines) = option_or (line_refusal before line) (first_refusal (before ++ line ∷ []) lines)
 
+-- the lines of a text, each by its tokens
 abbrev pub lines_of : List ℕ → List Line
 lines_of bytes = map tokens (lines bytes)
 

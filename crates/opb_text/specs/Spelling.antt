@@ -24,12 +24,15 @@ canonical row = written_with (row.at_least -ℤ on_opposites row.terms) (in_norm
 
 -- ---- lines, each with its line feed
 
+-- the first line, a comment that tells how many variables and how many rows there are
 abbrev pub header_line : ℕ → ℕ → List ℕ
 header_line vars rows = codes "* #variable= " ++ (decimal vars ++ (codes " #constraint= " ++ (decimal rows ++ 10 ∷ [])))
 
+-- the line that says which terms are to be minimized
 abbrev pub objective_line : List Term → List ℕ
 objective_line terms = codes "min: " ++ (flat_map term_text terms ++ (59 ∷ 10 ∷ []))
 
+-- the text of a row, as a line of its own
 abbrev pub row_line : Written → List ℕ
 row_line row = row_text row ++ 10 ∷ []
 

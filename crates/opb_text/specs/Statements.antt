@@ -38,16 +38,19 @@ read_statement (t ∷ ts) =
 abbrev pub statements : List Line → List Statement
 statements lines = filter_map read_statement lines
 
+-- the terms of a statement, be it an objective or a row
 abbrev pub terms_in : Statement → List Term
 terms_in nothing = []
 terms_in (minimize terms) = terms
 terms_in (constraint row) = row.terms
 
+-- the terms that a statement asks to minimize, none where it isn't an objective
 abbrev pub objective_in : Statement → List Term
 objective_in nothing = []
 objective_in (minimize terms) = terms
 objective_in (constraint row) = []
 
+-- the row that a statement asks for, none where it isn't one
 abbrev pub rows_in : Statement → List Written
 rows_in nothing = []
 rows_in (minimize terms) = []

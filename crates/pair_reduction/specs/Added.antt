@@ -18,10 +18,12 @@ pub data Piece : Type 0 where
   ALine : Line → Piece
   ANote : Note → Piece
 
+-- the bytes of a line or of a note
 abbrev pub piece_text : Piece → List ℕ
 piece_text (ALine line) = line_text line
 piece_text (ANote note) = note_text note
 
+-- the notes of some lines and notes, in their order
 abbrev pub notes_among : List Piece → List Note
 notes_among [] = []
 notes_among (ALine line ∷ pieces) = notes_among pieces

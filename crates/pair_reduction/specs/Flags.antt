@@ -14,5 +14,6 @@ is_waiting flags n = slice_index_or flags n false
 abbrev pub is_marked : List Bool → ℕ → Bool
 is_marked flags p = slice_index_or flags (p - 1) false
 
+-- how many flags are set
 abbrev pub flag_count : List Bool → ℕ
 flag_count flags = count_by (λ b. b) flags

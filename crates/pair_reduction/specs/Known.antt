@@ -9,19 +9,21 @@ use Rattle.pair_reduction.specs.declared.known.Known.{Known}
 use Rattle.pair_reduction.specs.Flags.{flag_count, is_marked, is_waiting}
 use Rattle.pair_reduction.specs.Sides.{is_free, is_passed, list_count, list_of, other}
 
--- the marks of the pairs that are free on a side, and which lists of a side wait
+-- the marks of the pairs that are free on a side
 abbrev pub marks_on : Side → Known → List Bool
 marks_on Resident known = known.only.items
 marks_on Hospital known = known.sure.items
 
+-- which lists of a side wait
 abbrev pub waiting_on : Side → Known → List Bool
 waiting_on Resident known = known.residents
 waiting_on Hospital known = known.hospitals
 
--- the free pairs of a list are marked, and its passed pairs are gone
+-- the free pairs of a list are marked
 abbrev pub AreMarked : Side → Lists → Known → ℕ → Type 0
 AreMarked side lists known n = (p : ℕ) → IsPairNo lists p → list_of side lists p ≡ n → is_free side lists (is_deleted known.gone) p ≡ true → is_marked (marks_on side known) p ≡ true
 
+-- the passed pairs of a list are gone
 abbrev pub ArePassed : Side → Lists → Known → ℕ → Type 0
 ArePassed side lists known n = (w : ℕ) → IsPairNo lists w → list_of side lists w ≡ n → is_passed side lists (is_marked (marks_on (other side) known)) w ≡ true → is_deleted known.gone w ≡ true
 
@@ -38,10 +40,11 @@ pub record IsKept (lists : Lists) (known : Known) : Type 0 where
   pub sound : (side : Side) (p : ℕ) → IsPairNo lists p → is_marked (marks_on side known) p ≡ true → is_free side lists (is_deleted known.gone) p ≡ true
   pub watched : (side : Side) (n : ℕ) → n + 1 ≤ list_count side lists → is_waiting (waiting_on side known) n ≡ false → IsSettled side lists known n
 
--- how many lists wait, and how many marks there are
+-- how many lists wait, on both sides together
 abbrev pub waiting_count : Known → ℕ
 waiting_count known = flag_count known.residents + flag_count known.hospitals
 
+-- how many marks there are: pairs that are gone, and pairs that are marked as free on either side
 abbrev pub mark_count : Known → ℕ
 mark_count known = deleted_count known.gone + flag_count known.sure.items + flag_count known.only.items
 

@@ -36,9 +36,11 @@ abbrev pub unit_steps : ℕ → Option RowNo → List PolStep
 unit_steps c None = []
 unit_steps c (Some id) = Id id ∷ Times (pos c) ∷ Add ∷ []
 
+-- the posts times the unit row of a pair o that comes before q is added, if it has one
 abbrev pub before_steps : Lists → Deletions → ℕ → ℕ → List PolStep
 before_steps lists deletions q o = if is_before lists q o then unit_steps (capacity_of lists (pair_at lists q).hospital) (unit_of deletions o) else []
 
+-- the row of the model with this number is added, if there is one
 abbrev pub row_steps : Option ℕ → List PolStep
 row_steps None = []
 row_steps (Some k) = Id (row_no k) ∷ Add ∷ []

@@ -52,10 +52,11 @@ pub record HoldsUnits (old new : Derived) (deletions : Deletions) : Type 0 where
 abbrev pub MakesFew : ℕ → Derived → Derived → Type 0
 MakesFew pairs old new = new.state.next ≤ old.state.next + 20001 * pairs
 
--- the unit row of a pair was made by a `rup` line, and a note names it
+-- the unit row of a pair was made by a `rup` line
 abbrev pub with_unit_row : ℕ → Derived → Derived
 with_unit_row p d = with_new_row (unit_row p) (line_text (Rup (written_of (unit_row p)))) d
 
+-- the unit row of a pair was made by a `rup` line, and a note names it
 abbrev pub with_unit : ℕ → Derived → Derived
 with_unit p d = with_note (UnitRow (row_no d.state.next)) (with_unit_row p d)
 

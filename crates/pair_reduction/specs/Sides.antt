@@ -6,6 +6,7 @@ use Rattle.stability_model.specs.Gone.{Pairs}
 use Rattle.pair_reduction.specs.declared.sides.Side.{Side}
 use Rattle.pair_reduction.specs.declared.sides.Side.TheVariants.{Resident, Hospital}
 
+-- the opposite side: hospitals for residents, and residents for hospitals
 abbrev pub other : Side → Side
 other Resident = Hospital
 other Hospital = Resident

@@ -8,6 +8,7 @@ use Rattle.hrt_base.specs.declared.literal.Value.TheVariants.{False, Free, True}
 use Rattle.pb_rows.specs.Terms.{PlainRow, opposite_lit, weight}
 use Rattle.pb_rows.specs.Rows.{opposite_row}
 
+-- a set of literals: whether each literal is in it
 abbrev pub Literals : Type 0
 Literals = Lit → Bool
 
@@ -23,12 +24,13 @@ is_same_lit a b = (a.var == b.var) && (if a.neg then b.neg else not b.neg)
 abbrev pub among : List Lit → Literals
 among literals l = list_any (is_same_lit l) literals
 
--- what an array makes true: variable v stands at place v - 1
+-- whether a variable's value makes true its literal with this sign
 abbrev pub makes_true : Value → Bool → Bool
 makes_true Free neg = false
 makes_true True neg = not neg
 makes_true False neg = neg
 
+-- what an array makes true: variable v stands at place v - 1
 abbrev pub literals_of : List Value → Literals
 literals_of values l = makes_true (slice_index_or values (l.var - 1) Free) l.neg
 
@@ -43,6 +45,7 @@ abbrev pub nonfalse_sum : Literals → List Term → ℕ
 nonfalse_sum set [] = 0
 nonfalse_sum set (t ∷ ts) = nonfalse_share set t + nonfalse_sum set ts
 
+-- the sum of the coefficients of the literals that aren't false, minus the degree
 abbrev pub slack : Literals → PlainRow → ℤ
 slack set r = pos (nonfalse_sum set r.terms) -ℤ pos r.degree
 

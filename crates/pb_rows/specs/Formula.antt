@@ -12,6 +12,7 @@ pub record Formula : Type 0 where
 
 -- ---- numbered rows
 
+-- a row and the number that it goes by
 pub record NumberedRow : Type 0 where
   pub number : ℕ
   pub row : PlainRow

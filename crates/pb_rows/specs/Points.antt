@@ -8,9 +8,11 @@ use Rattle.pb_rows.specs.Terms.{weight}
 abbrev pub Point : Type 0
 Point = ℕ → Bool
 
+-- whether a literal is true at a point
 abbrev pub is_true_at : Point → Lit → Bool
 is_true_at p l = if l.neg then not (p l.var) else p l.var
 
+-- the coefficient, where it isn't negative, of a term whose literal is true, else 0
 abbrev pub share : Point → Term → ℕ
 share p t = if is_true_at p t.lit then weight t.coef else 0
 
@@ -19,10 +21,11 @@ abbrev pub true_sum : Point → List Term → ℕ
 true_sum p [] = 0
 true_sum p (t ∷ ts) = share p t + true_sum p ts
 
+-- the coefficient, with its sign, of a term whose literal is true, else 0
 abbrev pub signed_share : Point → Term → ℤ
 signed_share p t = if is_true_at p t.lit then t.coef else pos 0
 
--- the same of terms with signs
+-- the sum of the coefficients, with their signs, of the true literals
 abbrev pub value_at : Point → List Term → ℤ
 value_at p [] = pos 0
 value_at p (t ∷ ts) = signed_share p t +ℤ value_at p ts

@@ -7,9 +7,11 @@ use Rattle.pb_rows.specs.Terms.{IsRisingFrom, PlainRow, Written, capped, coef_su
 use Rattle.pb_rows.specs.Points.{Point, true_sum, value_at}
 use Rattle.pb_rows.specs.Normal.{normal_form}
 
+-- whether the coefficients of the true literals sum to at least the degree
 abbrev pub holds : Point → PlainRow → Bool
 holds p r = nat_le r.degree (true_sum p r.terms)
 
+-- every row holds at the point
 abbrev pub AllHold : Point → List PlainRow → Type 0
 AllHold p rows = All (λ r. IsTrue (holds p r)) rows
 
@@ -23,6 +25,7 @@ in_normal_form w = normal_form w.terms w.at_least
 abbrev pub add : PlainRow → PlainRow → PlainRow
 add a b = normal_form (a.terms ++ b.terms) (pos (a.degree + b.degree))
 
+-- every number multiplied by k
 abbrev pub times : ℕ → PlainRow → PlainRow
 times k r = record { terms = map (scaled k) r.terms; degree = r.degree * k }
 
@@ -52,9 +55,11 @@ literal_row l = record { terms = weighing 1 l ∷ []; degree = 0 }
 abbrev pub HoldsWhere : List Term → ℤ → PlainRow → Type 0
 HoldsWhere terms at_least r = (p : Point) → IsTrue (holds p r) ↔ (at_least ≤ℤ value_at p terms)
 
+-- the second row holds wherever the first does
 abbrev pub HoldsAfter : PlainRow → PlainRow → Type 0
 HoldsAfter before after = (p : Point) → holds p before ≡ true → holds p after ≡ true
 
+-- the third row holds wherever the first two both do
 abbrev pub HoldsWithBoth : PlainRow → PlainRow → PlainRow → Type 0
 HoldsWithBoth a b sum = (p : Point) → holds p a ≡ true → holds p b ≡ true → holds p sum ≡ true
 
@@ -68,6 +73,7 @@ HoldsElsewhere r opposite = (p : Point) → holds p opposite ≡ not (holds p r)
 
 -- ---- what fits
 
+-- the coefficients sum to at most 2^120, and the degree is at most 2^120
 pub record Fits (r : PlainRow) : Type 0 where
   pub sum : coef_sum r.terms ≤ 2 ^ 120
   pub degree : r.degree ≤ 2 ^ 120

@@ -20,6 +20,7 @@ pub record PlainRow : Type 0 where
 
 -- ---- coefficients
 
+-- a number is above 0
 abbrev pub IsPositive : ℤ → Type 0
 IsPositive (pos n) = 0 < n
 IsPositive (negsuc n) = ⊥
@@ -29,9 +30,11 @@ abbrev pub weight : ℤ → ℕ
 weight (pos n) = n
 weight (negsuc n) = 0
 
+-- the term of a literal with a coefficient that isn't negative
 abbrev pub weighing : ℕ → Lit → Term
 weighing n l = record { coef = pos n; lit = l }
 
+-- the sum of the coefficients that aren't negative
 abbrev pub coef_sum : List Term → ℕ
 coef_sum [] = 0
 coef_sum (t ∷ ts) = weight t.coef + coef_sum ts
@@ -43,29 +46,37 @@ IsRisingFrom low (t ∷ ts) = (low ≤ t.lit.var) × IsPositive t.coef × IsRisi
 
 -- ---- changed coefficients
 
+-- the term with its coefficient changed by f, its literal as it was
 abbrev pub reweighed : (ℕ → ℕ) → Term → Term
 reweighed f t = weighing (f (weight t.coef)) t.lit
 
+-- the term with its coefficient multiplied by k
 abbrev pub scaled : ℕ → Term → Term
 scaled k = reweighed (λ w. w * k)
 
+-- the term with its coefficient divided by k and rounded up
 abbrev pub divided : ℕ → Term → Term
 divided k = reweighed (λ w. div_ceil w k)
 
+-- the term with its coefficient lowered to `most` where it is above
 abbrev pub capped : ℕ → Term → Term
 capped most = reweighed (λ w. min w most)
 
+-- whether the coefficient is above 0
 abbrev pub is_present : Term → Bool
 is_present t = nat_lt 0 (weight t.coef)
 
+-- the term with the same coefficient on the opposite literal
 abbrev pub negated : Term → Term
 negated t = record t { lit = opposite_lit t.lit }
 
 -- ---- one variable
 
+-- whether the variable of a term is v
 abbrev pub is_over : ℕ → Term → Bool
 is_over v t = t.lit.var == v
 
+-- the coefficient, where it isn't negative, of a term over v, else 0
 abbrev pub part_over : ℕ → Term → ℕ
 part_over v t = if is_over v t then weight t.coef else 0
 

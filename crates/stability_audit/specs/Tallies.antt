@@ -26,10 +26,11 @@ pub record IsTallied (owner rank : ℕ → ℕ) (m : List ℕ) (count : ℕ) (ta
   pub size : length table ≡ count
   pub each : (k : ℕ) → k < count → slice_index_or table k no_pair ≡ tally_of owner rank m k
 
--- the resident and the hospital of a pair
+-- the resident of a pair
 abbrev pub resident_of : Lists → ℕ → ℕ
 resident_of lists q = (pair_at lists q).resident
 
+-- the hospital of a pair
 abbrev pub hospital_of : Lists → ℕ → ℕ
 hospital_of lists q = (pair_at lists q).hospital
 

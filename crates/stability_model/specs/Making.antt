@@ -8,32 +8,35 @@ use Rattle.rank_tables.specs.Numbers.{below}
 use Rattle.rank_tables.specs.Instance.{Lists, capacity_of, pair_at, rank_by_hospital, rank_by_resident}
 use Rattle.stability_model.specs.Model.{at_most, has_any, hospital_row_no, hospital_rows, resident_row_no, resident_rows, rows, term}
 
--- lists that grow, and the one at a place: none past the end
+-- the items of each of some lists that grow
 abbrev pub items_of : {T A : Type 0} → List (Vec T A) → List (List T)
 items_of buckets = map (λ bucket. bucket.items) buckets
 
+-- the items of the list at place h, none past the end
 abbrev pub bucket_at : {T A : Type 0} → List (Vec T A) → ℕ → List T
 bucket_at buckets h = get_or (items_of buckets) h []
 
--- the row of these pairs, if there is one, and its number after so many others
+-- the row that at most c of these pairs are taken, none where there is no pair
 abbrev pub row_if_any : ℕ → List ℕ → List PlainRow
 row_if_any c ps = if has_any ps then in_normal_form (at_most c ps) ∷ [] else []
 
+-- the number of the row of these pairs behind so many others, None where there is no pair
 abbrev pub number_after : ℕ → List ℕ → Option ℕ
 number_after before ps = if has_any ps then Some (before + 1) else None
 
--- The coefficient of pair q in the row of pair p, in two parts: q as a pair of the resident of p, and as one of its
--- hospital and of another resident.
+-- the coefficient of pair q in the row of pair p, for a pair q of the resident of p
 abbrev pub resident_share : Lists → ℕ → ℕ → ℕ
 resident_share lists p q =
     if q == p then capacity_of lists (pair_at lists p).hospital + 1
     else (if nat_le (rank_by_resident lists q) (rank_by_resident lists p) then capacity_of lists (pair_at lists p).hospital else 0)
 
+-- the coefficient of pair q in the row of pair p, for a pair q of the hospital of p; 0 where both have one resident
 abbrev pub hospital_share : Lists → ℕ → ℕ → ℕ
 hospital_share lists p q =
     if (pair_at lists q).resident == (pair_at lists p).resident then 0
     else (if nat_le (rank_by_hospital lists q) (rank_by_hospital lists p) then 1 else 0)
 
+-- a term for each of these pairs, with the coefficient that f gives it
 abbrev pub counted_terms : (ℕ → ℕ) → List ℕ → List Term
 counted_terms f ps = map (λ q. term (pos (f q)) q) ps
 

@@ -25,31 +25,37 @@ abbrev pub has_any : List ℕ → Bool
 has_any [] = false
 has_any (p ∷ ps) = true
 
+-- whether a resident has an acceptable pair
 abbrev pub resident_has_pair : Lists → ℕ → Bool
 resident_has_pair lists r = has_any (pairs_of_resident lists r)
 
+-- whether a hospital has an acceptable pair
 abbrev pub hospital_has_pair : Lists → ℕ → Bool
 hospital_has_pair lists h = has_any (pairs_of_hospital lists h)
 
--- a resident is in at most one pair, a hospital in at most as many as it has posts
+-- a resident is in at most one pair
 abbrev pub resident_row : Lists → ℕ → Written
 resident_row lists r = at_most 1 (pairs_of_resident lists r)
 
+-- a hospital is in at most as many pairs as it has posts
 abbrev pub hospital_row : Lists → ℕ → Written
 hospital_row lists h = at_most (capacity_of lists h) (pairs_of_hospital lists h)
 
+-- the rows of the residents that have an acceptable pair, in their order
 abbrev pub resident_rows : Lists → List Written
 resident_rows lists = map (resident_row lists) (filter (resident_has_pair lists) (below (length lists.residents)))
 
+-- the rows of the hospitals that have an acceptable pair, in their order
 abbrev pub hospital_rows : Lists → List Written
 hospital_rows lists = map (hospital_row lists) (filter (hospital_has_pair lists) (below (length lists.hospitals)))
 
 -- ---- the rows of pairs
 
--- whether q is of the resident of p, which ranks it at least as high as p, and the same of the hospital of p
+-- whether q is a pair of the resident of p, which ranks it at least as high as p
 abbrev pub is_as_good_for_resident : Lists → ℕ → ℕ → Bool
 is_as_good_for_resident lists p q = (pair_at lists q).resident == (pair_at lists p).resident && nat_le (rank_by_resident lists q) (rank_by_resident lists p)
 
+-- whether q is a pair of the hospital of p, which ranks it at least as high as p
 abbrev pub is_as_good_for_hospital : Lists → ℕ → ℕ → Bool
 is_as_good_for_hospital lists p q = (pair_at lists q).hospital == (pair_at lists p).hospital && nat_le (rank_by_hospital lists q) (rank_by_hospital lists p)
 
@@ -75,6 +81,7 @@ pair_row lists p = record {
 abbrev pub written_rows : Lists → List Written
 written_rows lists = resident_rows lists ++ hospital_rows lists ++ map (pair_row lists) (numbers_to (pair_count lists))
 
+-- how many terms a row has
 abbrev pub term_count : Written → ℕ
 term_count row = length row.terms
 
@@ -90,14 +97,16 @@ objective lists = map (λ p. term (neg_ℤ (pos 1)) p) (numbers_to (pair_count l
 abbrev pub formula : Lists → Formula
 formula lists = record { vars = pair_count lists; objective = objective lists; rows = rows lists }
 
--- the numbers of the rows of a resident and of a hospital: none where there is no acceptable pair
+-- the number of a resident's row, None where the resident has no acceptable pair
 abbrev pub resident_row_no : Lists → ℕ → Option ℕ
 resident_row_no lists r = if resident_has_pair lists r then Some (count_by (resident_has_pair lists) (below r) + 1) else None
 
+-- the number of a hospital's row, None where the hospital has no acceptable pair
 abbrev pub hospital_row_no : Lists → ℕ → Option ℕ
 hospital_row_no lists h =
     if hospital_has_pair lists h then Some (length (resident_rows lists) + count_by (hospital_has_pair lists) (below h) + 1) else None
 
+-- the number of the row of pair p, behind all rows of residents and of hospitals
 abbrev pub pair_row_no : Lists → ℕ → ℕ
 pair_row_no lists p = length (resident_rows lists) + length (hospital_rows lists) + p
 
@@ -107,6 +116,7 @@ IsRow lists k row = slice_get (rows lists) (k - 1) ≡ Some (in_normal_form row)
 
 -- ---- what the model says
 
+-- whether every row of the model holds at the point
 abbrev pub all_rows_hold : Lists → Point → Bool
 all_rows_hold lists point = list_all (holds point) (rows lists)
 

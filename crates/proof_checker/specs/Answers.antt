@@ -9,6 +9,7 @@ use Rattle.proof_rules.specs.Texts.{Verdict, HasVerdict}
 use Rattle.proof_checker.specs.declared.refusal.ProofRefusal.{ProofRefusal}
 use Rattle.proof_checker.specs.declared.refusal.ProofRefusal.TheVariants.{Syntax, BadId, BadVariable, StackShape, TooBig, NotFull, NotImplied, NotASolution, BoundNotShown, WrongCount, Truncated, NoMemory}
 
+-- the verdict that the line is refused for that reason
 abbrev pub refused_at : ℕ → Refusal → Verdict
 refused_at line reason = text.Refused (record { line = line; why = reason })
 
@@ -27,6 +28,7 @@ refusal_verdict (WrongCount line) = Some (refused_at line why.WrongCount)
 refusal_verdict Truncated = Some text.Truncated
 refusal_verdict NoMemory = None
 
+-- the verdict that an answer gives, if any; want of memory gives none
 abbrev pub verdict_of : Result Claim ProofRefusal → Option Verdict
 verdict_of (Ok claim) = Some (text.Accepted claim)
 verdict_of (Err refusal) = refusal_verdict refusal

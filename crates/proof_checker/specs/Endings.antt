@@ -50,10 +50,12 @@ StopsFirst f here bytes fault = IfSome (reason_of fault) (Stops f here (whole_li
 
 -- ---- the bytes behind the last line feed
 
+-- the proof isn't done at the place, and the bytes don't end it
 pub record EndsEarly (f : Formula) (here : Place) (rest : List ℕ) : Type 0 where
   pub not_done : (claim : Claim) → here ≡ place.Done claim → ⊥
   pub not_ended : (claim : Claim) → Reaches f here (last_line rest) (place.Done claim) → ⊥
 
+-- the proof is done at the place, and the bytes are one more line, refused for its syntax
 pub record EndsWrong (f : Formula) (here : Place) (rest : List ℕ) : Type 0 where
   pub claim : Claim
   pub done : here ≡ place.Done claim

@@ -12,6 +12,7 @@ use Rattle.proof_checker.specs.declared.stage.Stage.TheVariants.{Start, Headed, 
 use Rattle.proof_checker.specs.Faults.{Halts}
 use Rattle.proof_checker.specs.Kept.{Kept}
 
+-- the place of the rules at which the code is, by its stage and the state that it keeps
 abbrev pub place_of : Stage → State → Place
 place_of Start s = place.Start
 place_of Headed s = place.Headed
@@ -26,6 +27,7 @@ IsFirstAt f Start s = s ≡ first_state f
 IsFirstAt f Headed s = s ≡ first_state f
 IsFirstAt f stage s = Unit {0}
 
+-- what the code keeps fits the stage: the variables are the formula's, and before the steps the state is the first
 pub record IsAt (f : Formula) (stage : Stage) (kept : Kept) : Type 0 where
   pub vars : kept.vars ≡ f.vars
   pub first : IsFirstAt f stage kept.state

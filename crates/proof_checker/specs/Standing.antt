@@ -37,6 +37,7 @@ pub data Led : Type 0 where
 abbrev pub unfinished : List ℕ → Option (List ℕ)
 unfinished rest = if nat_le (length rest) most_bytes then Some rest else None
 
+-- the text leads to the place, with so many whole lines and that unfinished line, or to that refusal
 abbrev pub LeadsTo : Formula → List ℕ → Led → Type 0
 LeadsTo f bytes (Here place lines line) = Reaches f Start (whole_lines bytes) place × (length (whole_lines bytes) ≡ lines) × (unfinished (cut bytes).rest ≡ line)
 LeadsTo f bytes (Stopped refusal) = (n : ℕ) × (refusal.line ≡ n + 1) × Stops f Start (whole_lines bytes) n refusal.why

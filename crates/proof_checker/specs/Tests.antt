@@ -12,6 +12,7 @@ use Rattle.proof_rules.specs.States.{if_hold, if_known, is_full, literals_in, na
 abbrev pub known_literals : ℕ → List Lit → Result (Unit {0}) Refusal
 known_literals vars ls = if_known vars ls (Ok tt)
 
+-- each term's variable is at most vars
 abbrev pub known_terms : ℕ → List Term → Result (Unit {0}) Refusal
 known_terms vars terms = known_literals vars (literals_in terms)
 

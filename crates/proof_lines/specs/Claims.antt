@@ -5,6 +5,7 @@ use Rattle.row_text.specs.declared.readings.Reading.TheVariants.{Unspelled, TooB
 use Rattle.proof_lines.specs.declared.line.Claim.{Claim}
 use Rattle.proof_lines.specs.declared.line.Claim.TheVariants.{Bounds}
 
+-- the claim of a lower and an upper bound; it is unspelled where either is, and else too big where either is
 abbrev pub joined : Reading (Option ℤ) → Reading (Option ℤ) → Reading Claim
 joined Unspelled upper = Unspelled
 joined TooBig Unspelled = Unspelled

@@ -40,6 +40,7 @@ Answers (Err NoMemory) wanted = Unit {0}
 Answers (Err Syntax) wanted = wanted ≡ Err Syntax
 Answers (Err (TooBig kind)) wanted = wanted ≡ Err (TooBig kind)
 
+-- the line ends the proof; one without a spelling doesn't
 abbrev pub is_end : Option Line → Bool
 is_end None = false
 is_end (Some End) = true
@@ -49,6 +50,7 @@ is_end (Some line) = false
 abbrev pub is_end_text : List ℕ → Bool
 is_end_text bytes = is_end (read_line bytes)
 
+-- the line has no tokens; one without a spelling isn't blank
 abbrev pub is_blank : Option Line → Bool
 is_blank None = false
 is_blank (Some Blank) = true

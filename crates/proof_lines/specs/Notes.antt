@@ -14,6 +14,7 @@ pub record Front (A : Type 0) : Type 0 where
   pub items : List A
   pub behind : List (List ℕ)
 
+-- the front with one more item before its others
 abbrev pub with_item : {A : Type 0} → A → Front A → Front A
 with_item x front = record { items = x ∷ front.items; behind = front.behind }
 
@@ -34,27 +35,31 @@ abbrev pub read_one_literal : List (List ℕ) → Option Lit
 read_one_literal (t ∷ []) = read_literal t
 read_one_literal _ = None
 
--- variables, a colon and one row number or more
+-- the load note of the variables before the colon, and of one row number or more behind it
 abbrev pub load_behind : Front ℕ → Option Note
 load_behind front = option_map (load_note front.items) (one_or_more (read_each read_row_no front.behind))
 
+-- variables, a colon and one row number or more
 abbrev pub read_load : List (List ℕ) → Option Note
 read_load ts = option_and_then load_behind (read_front read_variable ts)
 
--- a row number, a colon, decisions, a colon and a literal
+-- the learn note of the row, of the decisions before the colon, and of the one literal behind it
 abbrev pub learn_behind : RowNo → Front Lit → Option Note
 learn_behind row front = option_map (learn_note row front.items) (read_one_literal front.behind)
 
+-- the learn note of a row number, if it is read, and of the tokens behind its colon
 abbrev pub learn_from : Option RowNo → List (List ℕ) → Option Note
 learn_from None ts = None
 learn_from (Some row) ts = option_and_then (learn_behind row) (read_front read_literal ts)
 
+-- a row number, a colon, decisions, a colon and a literal
 abbrev pub read_learn : List (List ℕ) → Option Note
 read_learn (t ∷ u ∷ ts) = if bytes_eq u (codes ":") then learn_from (read_row_no t) ts else None
 read_learn _ = None
 
 -- ---- notes
 
+-- the note that the word for its kind and the tokens behind that spell, if any
 abbrev pub read_kind : List ℕ → List (List ℕ) → Option Note
 read_kind kind ts =
     if bytes_eq kind (codes "unit") then option_map unit_note (read_one_row ts)
@@ -64,6 +69,7 @@ read_kind kind ts =
     else if bytes_eq kind (codes "drop") then option_map drop_note (read_one_row ts)
     else None
 
+-- the note that the tokens of a line spell, if any: `*`, `note`, the kind and what follows it
 abbrev pub read_note_tokens : List (List ℕ) → Option Note
 read_note_tokens (t ∷ u ∷ v ∷ ts) = if bytes_eq t (codes "*") && bytes_eq u (codes "note") then read_kind v ts else None
 read_note_tokens _ = None

@@ -18,9 +18,11 @@ use Rattle.proof_lines.specs.declared.line.Line.TheVariants.{Header, Count, Pol,
 abbrev pub most_bytes : ℕ
 most_bytes = 16777216
 
+-- the number of a row, from a plain number
 abbrev pub row_no : ℕ → RowNo
 row_no n = record { 0 = n }
 
+-- a list that was read, where it isn't empty
 abbrev pub one_or_more : {A : Type 0} → Option (List A) → Option (List A)
 one_or_more None = None
 one_or_more (Some []) = None
@@ -34,6 +36,7 @@ factor None = None
 factor (Some (pos n)) = if nat_le 1 n then Some (pos n) else None
 factor (Some (negsuc n)) = None
 
+-- the step of a row number, or else of a literal, where one of them is read
 abbrev pub id_or_axiom : Option ℕ → Option Lit → Option PolStep
 id_or_axiom (Some n) literal = Some (Id (row_no n))
 id_or_axiom None (Some l) = Some (Axiom l)
@@ -62,10 +65,12 @@ read_steps (t ∷ u ∷ ts) =
 abbrev pub read_bound : List ℕ → List ℕ → Option (Option ℤ)
 read_bound word t = if bytes_eq t word then Some None else option_map Some (read_number t)
 
+-- a lower and an upper bound, with `-INF` and `INF` for none
 abbrev pub read_bounds : List (List ℕ) → Option Claim
 read_bounds (l ∷ u ∷ []) = both Bounds (read_bound (codes "-INF") l) (read_bound (codes "INF") u)
 read_bounds _ = None
 
+-- what a conclusion claims: `BOUNDS` and two bounds, `UNSAT`, or `NONE`
 abbrev pub read_claim : List (List ℕ) → Option Claim
 read_claim [] = None
 read_claim (t ∷ ts) =
@@ -76,23 +81,29 @@ read_claim (t ∷ ts) =
 
 -- ---- lines
 
+-- how many rows the formula has: `0`, or at most 18 digits without a leading zero
 abbrev pub read_count : List (List ℕ) → Option ℕ
 read_count (t ∷ []) = if bytes_eq t (codes "0") then Some 0 else read_id t
 read_count _ = None
 
+-- the number of a row, from one token
 abbrev pub read_row_no : List ℕ → Option RowNo
 read_row_no t = option_map row_no (read_id t)
 
+-- the rows that are deleted: `id`, and one row number or more
 abbrev pub read_del : List (List ℕ) → Option (List RowNo)
 read_del [] = None
 read_del (t ∷ ts) = if bytes_eq t (codes "id") then one_or_more (read_each read_row_no ts) else None
 
+-- the words of the line that heads a proof, with the version of the format
 abbrev pub header_words : List (List ℕ)
 header_words = codes "pseudo-Boolean" ∷ codes "proof" ∷ codes "version" ∷ codes "2.0" ∷ []
 
+-- the words of the line that says that there is no output
 abbrev pub output_words : List (List ℕ)
 output_words = codes "output" ∷ codes "NONE" ∷ []
 
+-- the words of the line that ends a proof
 abbrev pub end_words : List (List ℕ)
 end_words = codes "end" ∷ codes "pseudo-Boolean" ∷ codes "proof" ∷ []
 
@@ -104,6 +115,7 @@ read_words ts =
     else if are ts end_words then Some End
     else None
 
+-- the line that the tokens spell, if any; without tokens it is blank
 abbrev pub read_tokens : List (List ℕ) → Option Line
 read_tokens [] = Some Blank
 read_tokens (t ∷ ts) =
@@ -123,15 +135,18 @@ read_line bytes = if nat_le (length bytes + 1) most_bytes then read_tokens (toke
 
 -- ---- sizes
 
+-- the step's factor, if it has one, is within 2^120
 abbrev pub is_small_step : PolStep → Bool
 is_small_step (Times k) = is_small k
 is_small_step (Divide k) = is_small k
 is_small_step step = true
 
+-- the bound, if there is one, is within 2^120, on either side of 0
 abbrev pub is_small_bound : Option ℤ → Bool
 is_small_bound None = true
 is_small_bound (Some z) = is_small z
 
+-- the bounds that are claimed, if any, are within 2^120
 abbrev pub is_small_claim : Claim → Bool
 is_small_claim (Bounds lower upper) = is_small_bound lower && is_small_bound upper
 is_small_claim claim = true

@@ -17,9 +17,11 @@ use Rattle.proof_lines.specs.declared.note.Note.{Note}
 use Rattle.proof_lines.specs.declared.note.Note.TheVariants.{Unit as unit_note, Bound as bound_note, Load as load_note, Learn as learn_note, Drop as drop_note}
 use Rattle.proof_lines.specs.Spelling.{end_words, header_words, output_words}
 
+-- the number of a row in decimal digits
 abbrev pub id_text : RowNo → List ℕ
 id_text r = decimal r.0
 
+-- `x`, and the number of the variable in decimal digits
 abbrev pub variable_text : ℕ → List ℕ
 variable_text v = codes "x" ++ decimal v
 
@@ -40,11 +42,13 @@ abbrev pub bound_text : List ℕ → Option ℤ → List ℕ
 bound_text word None = word
 bound_text word (Some z) = signed_decimal z
 
+-- the words of a claim, as they stand behind `conclusion`
 abbrev pub claim_words : Claim → List (List ℕ)
 claim_words (Bounds lower upper) = codes "BOUNDS" ∷ bound_text (codes "-INF") lower ∷ bound_text (codes "INF") upper ∷ []
 claim_words Unsat = codes "UNSAT" ∷ []
 claim_words Nothing = codes "NONE" ∷ []
 
+-- the words that are written for a line; for a comment, `*` alone
 abbrev pub line_words : Line → List (List ℕ)
 line_words Header = header_words
 line_words (Count n) = codes "f" ∷ decimal n ∷ []
@@ -62,11 +66,13 @@ line_words Blank = []
 abbrev pub spelling : Line → List ℕ
 spelling line = words_text (line_words line)
 
+-- what is written for a line, with its line feed
 abbrev pub line_text : Line → List ℕ
 line_text line = spelling line ++ 10 ∷ []
 
 -- ---- notes
 
+-- the words of a note behind `* note`: its kind, and what follows that
 abbrev pub note_tail : Note → List (List ℕ)
 note_tail (unit_note r) = codes "unit" ∷ id_text r ∷ []
 note_tail (bound_note r) = codes "bound" ∷ id_text r ∷ []
@@ -74,6 +80,7 @@ note_tail (load_note trues rows) = codes "load" ∷ (map variable_text trues ++ 
 note_tail (learn_note r decisions asserts) = codes "learn" ∷ id_text r ∷ codes ":" ∷ (map literal_text decisions ++ codes ":" ∷ literal_text asserts ∷ [])
 note_tail (drop_note r) = codes "drop" ∷ id_text r ∷ []
 
+-- the words of a note, which is written as a comment
 abbrev pub note_words : Note → List (List ℕ)
 note_words note = codes "*" ∷ codes "note" ∷ note_tail note
 
@@ -81,24 +88,30 @@ note_words note = codes "*" ∷ codes "note" ∷ note_tail note
 abbrev pub note_spelling : Note → List ℕ
 note_spelling note = words_text (note_words note)
 
+-- what is written for a note, with its line feed
 abbrev pub note_text : Note → List ℕ
 note_text note = note_spelling note ++ 10 ∷ []
 
 -- ---- which lines and notes have a spelling
 
+-- the row number has a spelling: it is 1 to 10^18 - 1
 abbrev pub is_made_id : RowNo → Bool
 is_made_id r = nat_le 1 r.0 && nat_le r.0 (10 ^ 18 - 1)
 
+-- the variable has a spelling of its own: it is 1 to 4,294,967,295
 abbrev pub is_made_variable : ℕ → Bool
 is_made_variable v = nat_le 1 v && nat_le v 4294967295
 
+-- the literal's variable has a spelling
 abbrev pub is_made_literal : Lit → Bool
 is_made_literal l = is_made_variable l.var
 
+-- the number may be a factor: it is at least 1
 abbrev pub is_factor : ℤ → Bool
 is_factor (pos n) = nat_le 1 n
 is_factor (negsuc n) = false
 
+-- the step has a spelling: its row number, variable or factor has one, where there is one
 abbrev pub is_made_step : PolStep → Bool
 is_made_step (Id r) = is_made_id r
 is_made_step (Axiom l) = is_made_literal l
@@ -107,9 +120,11 @@ is_made_step (Divide k) = is_factor k
 is_made_step (Weaken v) = is_made_variable v
 is_made_step step = true
 
+-- the term's literal has a spelling; a coefficient always has one
 abbrev pub is_made_term : Term → Bool
 is_made_term t = is_made_literal t.lit
 
+-- the list isn't empty, and each of its items passes the test
 abbrev pub is_some_of : {A : Type 0} → (A → Bool) → List A → Bool
 is_some_of test [] = false
 is_some_of test (x ∷ xs) = list_all test (x ∷ xs)
@@ -123,6 +138,7 @@ is_made (Soli lits) = list_all is_made_literal lits
 is_made (Del ids) = is_some_of is_made_id ids
 is_made line = true
 
+-- the note has a spelling: its row numbers and variables have one, and where rows are held there is at least one
 abbrev pub is_made_note : Note → Bool
 is_made_note (unit_note r) = is_made_id r
 is_made_note (bound_note r) = is_made_id r

@@ -25,9 +25,10 @@ Refuses answer StackShape = answer ≡ Err why.StackShape
 Refuses answer TooBig = answer ≡ Err why.TooBig
 Refuses answer NoMemory = Unit {0}
 
--- two of the steps: the row that a literal is at least 0, and weakening
+-- the stack under the row that the literal is at least 0, or the refusal of a variable above vars
 abbrev pub push_axiom : ℕ → Lit → List PlainRow → Result (List PlainRow) Refusal
 push_axiom vars l stack = if nat_le l.var vars then Ok (literal_row l ∷ stack) else Err (why.BadVariable l.var)
 
+-- the stack with its top row weakened by the variable, or why that is refused
 abbrev pub weaken_top : ℕ → ℕ → List PlainRow → Result (List PlainRow) Refusal
 weaken_top vars v stack = if nat_le v vars then on_top (weaken v) stack else Err (why.BadVariable v)

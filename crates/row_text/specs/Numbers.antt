@@ -46,11 +46,13 @@ is_small z = nat_le (nat_abs z) (2 ^ 120)
 
 -- ---- lists of tokens that are all read
 
+-- two things that were read, joined; None where either was not
 abbrev pub both : {A B C : Type 0} → (A → B → C) → Option A → Option B → Option C
 both join None second = None
 both join (Some a) None = None
 both join (Some a) (Some b) = Some (join a b)
 
+-- what the tokens read as, in order; None where one of them isn't read
 abbrev pub read_each : {A : Type 0} → (List ℕ → Option A) → List (List ℕ) → Option (List A)
 read_each read [] = Some []
 read_each read (t ∷ ts) = both (λ x xs. x ∷ xs) (read t) (read_each read ts)

@@ -8,6 +8,7 @@ abbrev pub reading : {A : Type 0} → (A → Bool) → Option A → Reading A
 reading small None = Unspelled
 reading small (Some x) = if small x then Value x else TooBig
 
+-- the text has a spelling, though its numbers may be too big
 abbrev pub is_spelled : {A : Type 0} → Reading A → Bool
 is_spelled Unspelled = false
 is_spelled TooBig = true

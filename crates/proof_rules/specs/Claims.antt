@@ -26,10 +26,12 @@ at_least_row f l = normal_form f.objective l
 abbrev pub HasStronger : State → PlainRow → Type 0
 HasStronger s row = (other : PlainRow) × Contains (live_rows s) other × (other.terms ≡ row.terms) × (row.degree ≤ other.degree)
 
+-- the lower bound, if any, is shown: no value below it was logged, and its row follows from the live rows or a stronger one is live
 abbrev pub ShowsLower : Formula → State → Option ℤ → Type 0
 ShowsLower f s None = Unit {0}
 ShowsLower f s (Some l) = IsUnpassed s.least l × (Implies (live_rows s) (at_least_row f l) ⊎ HasStronger s (at_least_row f l))
 
+-- the upper bound, if any, is shown: a value that is at most the bound was logged
 abbrev pub ShowsUpper : State → Option ℤ → Type 0
 ShowsUpper s None = Unit {0}
 ShowsUpper s (Some u) = IsReached s.least u
@@ -38,6 +40,7 @@ ShowsUpper s (Some u) = IsReached s.least u
 abbrev pub ShowsNone : State → Type 0
 ShowsNone s = (s.least ≡ None) × Refuted (live_rows s) none
 
+-- the state shows what the claim says: both bounds, that no point satisfies the formula, or nothing
 abbrev pub Shows : Formula → State → Claim → Type 0
 Shows f s (Bounds lower upper) = ShowsLower f s lower × ShowsUpper s upper
 Shows f s Unsat = ShowsNone s

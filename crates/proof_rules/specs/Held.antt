@@ -18,9 +18,11 @@ pub record Held : Type 0 where
   pub learned : List ℕ
   pub learn_notes : ℕ
 
+-- the numbers of all held rows: of those that stay held, then of the learned ones
 abbrev pub held_numbers : Held → List ℕ
 held_numbers held = held.kept ++ held.learned
 
+-- whether the row with the number is held
 abbrev pub is_held : Held → ℕ → Bool
 is_held held n = is_in n (held_numbers held)
 
@@ -38,12 +40,15 @@ first_held lists = record { kept = numbers_to (pair_row_no lists 0); learned = [
 
 -- ---- what notes and lines change
 
+-- what is held once the rows with these numbers stay held too
 abbrev pub keeping : List ℕ → Held → Held
 keeping numbers held = record held { kept = held.kept ++ numbers }
 
+-- row numbers as plain numbers
 abbrev pub row_numbers : List RowNo → List ℕ
 row_numbers ids = map (λ id. id.0) ids
 
+-- what is held after a note: rows that it names stay held, or a row is learned, or a learned row is dropped
 abbrev pub after_note : Note → Held → Held
 after_note (UnitRow id) held = keeping (id.0 ∷ []) held
 after_note (BoundRow id) held = keeping (id.0 ∷ []) held
@@ -51,6 +56,7 @@ after_note (Load trues ids) held = keeping (row_numbers ids) held
 after_note (Learn id decisions asserts) held = record held { learned = held.learned ++ id.0 ∷ []; learn_notes = held.learn_notes + 1 }
 after_note (Drop id) held = record held { learned = filter (λ n. not (n == id.0)) held.learned }
 
+-- what is held after a note, if there is one
 abbrev pub after_any_note : Option Note → Held → Held
 after_any_note None held = held
 after_any_note (Some note) held = after_note note held

@@ -7,11 +7,12 @@ use Rattle.proof_lines.specs.declared.line.Claim.{Claim}
 use Rattle.proof_lines.specs.declared.line.Claim.TheVariants.{Bounds, Unsat, Nothing}
 use Rattle.proof_rules.specs.Texts.{IsValidText}
 
--- the objective is minus the number of pairs: at least l of it is at most -l pairs
+-- no weakly stable matching has more than -l pairs, if there is an l: the objective, minus the number of pairs, is at least l
 abbrev pub NoneIsLarger : Lists → Option ℤ → Type 0
 NoneIsLarger lists None = Unit {0}
 NoneIsLarger lists (Some l) = (m : List ℕ) → IsTrue (is_weakly_stable lists m) → pos (length m) ≤ℤ neg_ℤ l
 
+-- some weakly stable matching has at least -u pairs, if there is a u: the objective is at most u there
 abbrev pub OneIsAsLarge : Lists → Option ℤ → Type 0
 OneIsAsLarge lists None = Unit {0}
 OneIsAsLarge lists (Some u) = (m : List ℕ) × IsTrue (is_weakly_stable lists m) × (neg_ℤ u ≤ℤ pos (length m))

@@ -54,6 +54,7 @@ pub record Fresh (held : List PlainRow) (row : PlainRow) (decisions : List Lit) 
 
 -- ---- later ones
 
+-- the set with one literal put into it
 abbrev pub with_lit : Lit → Literals → Literals
 with_lit l set k = is_same_lit k l || set k
 
@@ -89,6 +90,7 @@ pub record Later (vars : ℕ) (b a : LearnedRow) : Type 0 where
 
 -- ---- notes
 
+-- the row with the number is live, and it is fresh over the held rows with these decisions and this literal
 abbrev pub LearnsFresh : List NumberedRow → Held → RowNo → List Lit → Lit → Type 0
 LearnsFresh live held id decisions l = (row : PlainRow) × (row_of id.0 live ≡ Some row) × Fresh (held_rows live held) row decisions l
 

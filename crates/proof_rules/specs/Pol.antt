@@ -19,14 +19,17 @@ fits row = nat_le (coef_sum row.terms) (2 ^ 120) && nat_le row.degree (2 ^ 120)
 abbrev pub push_made : PlainRow → List PlainRow → Result (List PlainRow) Refusal
 push_made row stack = if fits row then Ok (row ∷ stack) else Err TooBig
 
+-- the live row with number n goes on the stack, if there is one
 abbrev pub push_live : ℕ → Option PlainRow → List PlainRow → Result (List PlainRow) Refusal
 push_live n None stack = Err (BadId n)
 push_live n (Some row) stack = Ok (row ∷ stack)
 
+-- the changed top row takes the place of the top row
 abbrev pub on_top : (PlainRow → PlainRow) → List PlainRow → Result (List PlainRow) Refusal
 on_top change [] = Err StackShape
 on_top change (row ∷ stack) = push_made (change row) stack
 
+-- the sum of the two top rows takes their place
 abbrev pub add_top : List PlainRow → Result (List PlainRow) Refusal
 add_top [] = Err StackShape
 add_top (b ∷ []) = Err StackShape
@@ -53,7 +56,8 @@ only_row [] = Err StackShape
 only_row (row ∷ []) = Ok row
 only_row (row ∷ other ∷ stack) = Err StackShape
 
--- ---- the line: a written number that is too big comes before all else
+-- ---- the line
 
+-- the row that a `pol` line makes, or why not: a written number that is too big comes before all else
 abbrev pub pol_row : ℕ → List NumberedRow → List PolStep → Result PlainRow Refusal
 pol_row vars live steps = if list_all is_small_step steps then and_then (run_steps vars live steps []) only_row else Err TooBig

@@ -1,6 +1,7 @@
 -- The reasons to refuse a line.
 use Rattle.std.specs.Prelude.{ℕ, Result, Ok, Err}
 
+-- why a line is refused
 pub data Refusal : Type 0 where
   Syntax : Refusal  -- it has no spelling, or stands out of order
   TooBig : Refusal  -- a number or a row passes 2^120
@@ -18,6 +19,7 @@ pub record RefusalAt : Type 0 where
   pub line : ℕ
   pub why : Refusal
 
+-- what is next made of a result, unless that was a refusal, which stays
 abbrev pub and_then : {A B : Type 0} → Result A Refusal → (A → Result B Refusal) → Result B Refusal
 and_then (Ok x) next = next x
 and_then (Err e) next = Err e

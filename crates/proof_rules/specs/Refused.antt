@@ -17,5 +17,6 @@ pub record IsUnmet (f : Formula) (here : Place) (line : Line) (why : Refusal) : 
   pub fails : Owed f here line → ⊥
   pub why_is : why ≡ unmet here
 
+-- the line is refused here for this reason: it leads nowhere, or what it owes isn't so
 abbrev pub Refuses : Formula → Place → Line → Refusal → Type 0
 Refuses f here line why = (next_place f here line ≡ Err why) ⊎ IsUnmet f here line why

@@ -24,6 +24,7 @@ abbrev pub IsUpperBound : Formula → Option ℤ → Type 0
 IsUpperBound f None = Unit {0}
 IsUpperBound f (Some u) = (p : Point) × AllHold p f.rows × (value_at p f.objective ≤ℤ u)
 
+-- what the claim says of the formula is so: both bounds, that no point satisfies it, or nothing
 abbrev pub IsTrueClaim : Formula → Claim → Type 0
 IsTrueClaim f (Bounds lower upper) = IsLowerBound f lower × IsUpperBound f upper
 IsTrueClaim f Unsat = (p : Point) → AllHold p f.rows → ⊥
@@ -41,11 +42,12 @@ abbrev pub IsLogged : Formula → Option ℤ → Type 0
 IsLogged f None = Unit {0}
 IsLogged f (Some w) = (p : Point) × AllHold p f.rows × (value_at p f.objective ≡ w)
 
--- no coefficient of the row is negative
+-- no coefficient of the terms is negative
 abbrev pub AreUnsigned : List Term → Type 0
 AreUnsigned [] = Unit {0}
 AreUnsigned (t ∷ ts) = (pos 0 ≤ℤ t.coef) × AreUnsigned ts
 
+-- no coefficient of the row is negative
 abbrev pub IsUnsigned : PlainRow → Type 0
 IsUnsigned row = AreUnsigned row.terms
 

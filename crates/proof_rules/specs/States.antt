@@ -24,6 +24,7 @@ pub record State : Type 0 where
   pub next : ℕ
   pub least : Option ℤ
 
+-- the live rows without their numbers, oldest first
 abbrev pub live_rows : State → List PlainRow
 live_rows s = rows_of s.live
 
@@ -40,6 +41,7 @@ IsInOrder s = AreNumbered 1 s.next s.live
 abbrev pub first_state : Formula → State
 first_state f = record { live = numbered_from 1 f.rows; next = length f.rows + 1; least = None }
 
+-- the state once the row is live too, under the next number
 abbrev pub with_row : State → PlainRow → State
 with_row s row = record s { live = s.live ++ record { number = s.next; row = row } ∷ []; next = s.next + 1 }
 
@@ -50,6 +52,7 @@ if_known vars (l ∷ ls) result = if nat_le l.var vars then if_known vars ls res
 
 -- ---- rup
 
+-- the literals of terms, in their order
 abbrev pub literals_in : List Term → List Lit
 literals_in terms = map (λ t. t.lit) terms
 
@@ -70,6 +73,7 @@ named_point ls v = list_any (λ l. l.var == v && not l.neg) ls
 abbrev pub is_full : ℕ → List Lit → Bool
 is_full vars ls = list_all (λ v. count_by (λ l. l.var == v) ls == 1) (numbers_to vars)
 
+-- the terms of minus their sum: each coefficient with the opposite sign
 abbrev pub minus_terms : List Term → List Term
 minus_terms terms = map (λ t. record { coef = neg_ℤ t.coef; lit = t.lit }) terms
 
@@ -77,6 +81,7 @@ minus_terms terms = map (λ t. record { coef = neg_ℤ t.coef; lit = t.lit }) te
 abbrev pub at_most_row : List Term → ℤ → PlainRow
 at_most_row objective most = normal_form (minus_terms objective) (neg_ℤ most)
 
+-- the smaller of a value and the least one logged before, if any was
 abbrev pub smaller : Option ℤ → ℤ → ℤ
 smaller None v = v
 smaller (Some w) v = if int_lt v w then v else w

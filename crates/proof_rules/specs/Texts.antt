@@ -15,13 +15,16 @@ pub record Cut : Type 0 where
   pub whole : List (List ℕ)
   pub rest : List ℕ
 
+-- the cut with a byte that is no line feed before it: the byte begins the first line, or the rest where no line is whole
 abbrev pub into_first : ℕ → List ℕ → List (List ℕ) → Cut
 into_first b rest [] = record { whole = []; rest = b ∷ rest }
 into_first b rest (line ∷ lines) = record { whole = (b ∷ line) ∷ lines; rest = rest }
 
+-- the cut with any byte before it: a line feed ends a first line that is empty
 abbrev pub with_byte : ℕ → Cut → Cut
 with_byte b c = if b == 10 then record { whole = [] ∷ c.whole; rest = c.rest } else into_first b c.rest c.whole
 
+-- the bytes of a text, cut at their line feeds
 abbrev pub cut : List ℕ → Cut
 cut [] = record { whole = []; rest = [] }
 cut (b ∷ bytes) = with_byte b (cut bytes)
@@ -30,9 +33,11 @@ cut (b ∷ bytes) = with_byte b (cut bytes)
 abbrev pub Reading : Type 0
 Reading = List (Option Line)
 
+-- the lines that a line feed ends, as they are read
 abbrev pub whole_lines : List ℕ → Reading
 whole_lines bytes = map read_line (cut bytes).whole
 
+-- the one line that bytes after the last line feed are read as, or none where there are no such bytes
 abbrev pub last_line : List ℕ → Reading
 last_line [] = []
 last_line (b ∷ bytes) = read_line (b ∷ bytes) ∷ []
@@ -43,6 +48,7 @@ all_lines bytes = whole_lines bytes ++ last_line (cut bytes).rest
 
 -- ---- where they lead
 
+-- each line has a spelling, and one after another they lead from here to there
 abbrev pub Reaches : Formula → Place → Reading → Place → Type 0
 Reaches f here [] there = here ≡ there
 Reaches f here (None ∷ lines) there = ⊥
@@ -58,6 +64,7 @@ Stops f here (Some line ∷ lines) (suc n) why = (next : Place) × Moves f here 
 
 -- ---- verdicts
 
+-- the bytes, read as lines, are a valid proof that ends with this claim
 abbrev pub IsValidText : Formula → List ℕ → Claim → Type 0
 IsValidText f bytes claim = Reaches f Start (all_lines bytes) (Done claim)
 
@@ -80,11 +87,13 @@ pub record IsTruncated (f : Formula) (bytes : List ℕ) : Type 0 where
 
 -- ---- all of them
 
+-- what can be said of a text: it is a valid proof of a claim, or one of its lines is refused, or it ends too early
 pub data Verdict : Type 0 where
   Accepted : Claim → Verdict
   Refused : RefusalAt → Verdict
   Truncated : Verdict
 
+-- what the verdict says of the text is so
 abbrev pub HasVerdict : Formula → List ℕ → Verdict → Type 0
 HasVerdict f bytes (Accepted claim) = IsValidText f bytes claim
 HasVerdict f bytes (Refused refusal) = IsRefusedAt f bytes refusal

@@ -11,6 +11,7 @@ use Rattle.proof_rules.specs.Claims.{Shows}
 
 -- ---- the order of the lines
 
+-- where a proof is between two lines, and so which lines are due
 pub data Place : Type 0 where
   Start : Place  -- the header is due
   Headed : Place  -- the count is due
@@ -45,9 +46,11 @@ pub record Moves (f : Formula) (here : Place) (line : Line) (there : Place) : Ty
   pub leads : next_place f here line ≡ Ok there
   pub owed : Owed f here line
 
+-- one after another the lines lead from here to there
 abbrev pub Leads : Formula → Place → List Line → Place → Type 0
 Leads f here [] there = here ≡ there
 Leads f here (line ∷ lines) there = (next : Place) × Moves f here line next × Leads f next lines there
 
+-- the lines are a valid proof that ends with this claim
 abbrev pub IsValidProof : Formula → List Line → Claim → Type 0
 IsValidProof f lines claim = Leads f Start lines (Done claim)

@@ -37,10 +37,11 @@ rows_of rows = map (λ row. row.items) rows
 abbrev pub row_at : {T A : Type 0} → List (Vec T A) → ℕ → List T
 row_at rows r = slice_index_or (rows_of rows) r []
 
--- the written list of one of these
+-- a resident's list as it is written, empty where there is no such resident
 abbrev pub resident_groups : List DraftResident → ℕ → List (List ℕ)
 resident_groups residents r = unwrap_or (option_map (λ resident. resident.groups) (slice_get residents r)) []
 
+-- a hospital's list as it is written, empty where there is no such hospital
 abbrev pub hospital_groups : List DraftHospital → ℕ → List (List ℕ)
 hospital_groups hospitals h = unwrap_or (option_map (λ hospital. hospital.groups) (slice_get hospitals h)) []
 

@@ -15,10 +15,11 @@ pub record Lists : Type 0 where
 abbrev pub lists_of : Draft → Lists
 lists_of draft = record { residents = draft.residents.items; hospitals = draft.hospitals.items }
 
--- the written list of a resident, and of a hospital
+-- a resident's list as it is written, empty where there is no such resident
 abbrev pub groups_of_resident : Lists → ℕ → List (List ℕ)
 groups_of_resident lists r = unwrap_or (option_map (λ resident. resident.groups) (slice_get lists.residents r)) []
 
+-- a hospital's list as it is written, empty where there is no such hospital
 abbrev pub groups_of_hospital : Lists → ℕ → List (List ℕ)
 groups_of_hospital lists h = unwrap_or (option_map (λ hospital. hospital.groups) (slice_get lists.hospitals h)) []
 
@@ -26,10 +27,11 @@ groups_of_hospital lists h = unwrap_or (option_map (λ hospital. hospital.groups
 abbrev pub capacity_of : Lists → ℕ → ℕ
 capacity_of lists h = unwrap_or (option_map (λ hospital. hospital.capacity) (slice_get lists.hospitals h)) 0
 
--- whether a resident names a hospital, and a hospital a resident
+-- whether a resident names a hospital
 abbrev pub resident_names : Lists → ℕ → ℕ → Bool
 resident_names lists r h = is_in h (concat (groups_of_resident lists r))
 
+-- whether a hospital names a resident
 abbrev pub hospital_names : Lists → ℕ → ℕ → Bool
 hospital_names lists h r = is_in r (concat (groups_of_hospital lists h))
 
@@ -68,17 +70,19 @@ abbrev pub rank_in : List (List ℕ) → ℕ → Option ℕ
 rank_in [] x = None
 rank_in (group ∷ groups) x = if is_in x group then Some 1 else option_map (λ rank. rank + 1) (rank_in groups x)
 
--- the rank of pair p's hospital in its resident's list, and of its resident in its hospital's list
+-- the rank of pair p's hospital in its resident's list
 abbrev pub rank_by_resident : Lists → ℕ → ℕ
 rank_by_resident lists p = unwrap_or (rank_in (groups_of_resident lists (pair_at lists p).resident) (pair_at lists p).hospital) 0
 
+-- the rank of pair p's resident in its hospital's list
 abbrev pub rank_by_hospital : Lists → ℕ → ℕ
 rank_by_hospital lists p = unwrap_or (rank_in (groups_of_hospital lists (pair_at lists p).hospital) (pair_at lists p).resident) 0
 
--- the numbers of a resident's pairs, and of a hospital's, rising
+-- the numbers of a resident's pairs, rising
 abbrev pub pairs_of_resident : Lists → ℕ → List ℕ
 pairs_of_resident lists r = filter (λ p. (pair_at lists p).resident == r) (numbers_to (pair_count lists))
 
+-- the numbers of a hospital's pairs, rising
 abbrev pub pairs_of_hospital : Lists → ℕ → List ℕ
 pairs_of_hospital lists h = filter (λ p. (pair_at lists p).hospital == h) (numbers_to (pair_count lists))
 

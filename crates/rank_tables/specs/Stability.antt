@@ -4,10 +4,11 @@ use Rattle.std.specs.List.{list_any, list_all}
 use Rattle.rank_tables.specs.Instance.{Lists, pair_count, pair_at, rank_by_resident, rank_by_hospital, capacity_of}
 use Rattle.rank_tables.specs.Numbers.{numbers_to, is_in, is_distinct}
 
--- how many pairs in the list are of a resident, and of a hospital
+-- how many pairs in the list are of a resident
 abbrev pub uses_of_resident : Lists → List ℕ → ℕ → ℕ
 uses_of_resident lists m r = count_by (λ q. (pair_at lists q).resident == r) m
 
+-- how many pairs in the list are of a hospital
 abbrev pub uses_of_hospital : Lists → List ℕ → ℕ → ℕ
 uses_of_hospital lists m h = count_by (λ q. (pair_at lists q).hospital == h) m
 

@@ -11,11 +11,12 @@ use Rattle.rank_tables.specs.WellFormed.{IsWellFormed, most_pairs, most_terms}
 abbrev pub IsPairNo : Lists → ℕ → Type 0
 IsPairNo lists p = (1 ≤ p) × (p ≤ pair_count lists)
 
--- p is the number of a pair of this resident, and of this hospital
+-- p is the number of a pair of this resident
 pub record IsOfResident (lists : Lists) (r p : ℕ) : Type 0 where
   pub number : IsPairNo lists p
   pub resident : (pair_at lists p).resident ≡ r
 
+-- p is the number of a pair of this hospital
 pub record IsOfHospital (lists : Lists) (h p : ℕ) : Type 0 where
   pub number : IsPairNo lists p
   pub hospital : (pair_at lists p).hospital ≡ h

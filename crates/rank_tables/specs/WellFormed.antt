@@ -5,26 +5,31 @@ use Rattle.rank_tables.specs.Names.{is_name, are_apart}
 use Rattle.rank_tables.specs.Numbers.{is_distinct}
 use Rattle.rank_tables.specs.Instance.{Lists}
 
--- the most residents, hospitals, posts of one hospital, acceptable pairs, and terms of the 0/1 model
+-- the most residents that an instance may have
 abbrev pub most_residents : ℕ
 most_residents = 20000
 
+-- the most hospitals that an instance may have
 abbrev pub most_hospitals : ℕ
 most_hospitals = 20000
 
+-- the most posts that one hospital may have
 abbrev pub most_capacity : ℕ
 most_capacity = 20000
 
+-- the most acceptable pairs that an instance may have
 abbrev pub most_pairs : ℕ
 most_pairs = 100000
 
+-- the most terms that an instance's 0/1 model may have
 abbrev pub most_terms : ℕ
 most_terms = 8000000
 
--- the names of the residents, and of the hospitals, in the order of declaration
+-- the names of the residents, in the order of declaration
 abbrev pub names_of_residents : Lists → List (List ℕ)
 names_of_residents lists = map (λ r. r.name) lists.residents
 
+-- the names of the hospitals, in the order of declaration
 abbrev pub names_of_hospitals : Lists → List (List ℕ)
 names_of_hospitals lists = map (λ h. h.name) lists.hospitals
 

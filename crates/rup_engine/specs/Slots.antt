@@ -9,30 +9,37 @@ use Rattle.rup_engine.specs.declared.store.Slot.{Slot}
 use Rattle.rup_engine.specs.Live.{IsOver}
 use Rattle.rup_engine.specs.Propagation.{IsSteady}
 
+-- each slot holds a live row with its number, or is empty
 abbrev pub Slots : Type 0
 Slots = List (Option Slot)
 
+-- the row in a slot, with its number
 abbrev pub entry_of : Slot → NumberedRow
 entry_of s = record { number = s.number.0; row = s.row }
 
+-- the rows in the slots that aren't empty, with their numbers
 abbrev pub entries_of : Slots → List NumberedRow
 entries_of [] = []
 entries_of (None ∷ slots) = entries_of slots
 entries_of (Some s ∷ slots) = entry_of s ∷ entries_of slots
 
+-- the slot at a place, empty past the end
 abbrev pub slot_at : Slots → ℕ → Option Slot
 slot_at slots k = slice_index_or slots k None
 
+-- the terms of the row in a slot, none where it is empty
 abbrev pub terms_of : Option Slot → List Term
 terms_of None = []
 terms_of (Some s) = s.row.terms
 
 -- ---- facts about what a slot holds, if anything
 
+-- if it holds a row, the row's variables are from 1 to vars
 abbrev pub IsOverSlot : ℕ → Option Slot → Type 0
 IsOverSlot vars None = Unit {0}
 IsOverSlot vars (Some s) = IsOver vars s.row
 
+-- it holds a row, whose number is n
 abbrev pub HasNumber : ℕ → Option Slot → Type 0
 HasNumber n None = ⊥
 HasNumber n (Some s) = s.number.0 ≡ n
@@ -42,13 +49,16 @@ abbrev pub IsStrongSlot : PlainRow → Option Slot → Type 0
 IsStrongSlot row None = ⊥
 IsStrongSlot row (Some s) = (s.row.terms ≡ row.terms) × (row.degree ≤ s.row.degree)
 
+-- if it holds a row, this isn't falsified under the set, which holds every literal that the row propagates
 abbrev pub KeepsSlot : Literals → Option Slot → Type 0
 KeepsSlot set None = Unit {0}
 KeepsSlot set (Some s) = Keeps set s.row
 
+-- no row in the slots is falsified under the set, which holds every literal that one of them propagates
 abbrev pub KeepsSlots : Literals → Slots → Type 0
 KeepsSlots set slots = All (KeepsSlot set) slots
 
+-- if it holds a row, the sum reaches the row's degree, and the row has nothing left to propagate
 abbrev pub IsSteadySlot : Literals → ℕ → Option Slot → Type 0
 IsSteadySlot set sum None = Unit {0}
 IsSteadySlot set sum (Some s) = IsSteady set sum s.row

@@ -13,6 +13,7 @@ pub record Assigned : Type 0 where
   pub vars : ℕ
   pub literals : List Lit
 
+-- the value of a variable whose literal is true: false where that literal is the negated one
 abbrev pub value_for : Bool → Value
 value_for neg = if neg then False else True
 
@@ -20,6 +21,7 @@ value_for neg = if neg then False else True
 abbrev pub lit_at : ℕ → Bool → Lit
 lit_at place neg = record { var = place + 1; neg = neg }
 
+-- whether the value is neither true nor false
 abbrev pub is_free : Value → Bool
 is_free Free = true
 is_free True = false

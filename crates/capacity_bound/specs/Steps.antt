@@ -13,11 +13,12 @@ use Rattle.derivation.specs.Deletions.{Deletions, is_deleted, unit_of}
 
 -- ---- operands: each names a row that is added
 
--- the row `~x >= 1` of a deleted pair, and `~x >= 0` for another one
+-- the row of this number or, where there is none, `~x >= 0` of the pair
 abbrev pub unit_or_axiom : ℕ → Option RowNo → PolStep
 unit_or_axiom p None = Axiom (record { var = p; neg = true })
 unit_or_axiom p (Some id) = Id id
 
+-- the row `~x >= 1` of a deleted pair, and `~x >= 0` for another one
 abbrev pub pair_operand : Deletions → ℕ → PolStep
 pair_operand map p = unit_or_axiom p (unit_of map p)
 
@@ -52,11 +53,12 @@ pub data Sum : Type 0 where
   Row : PolStep → Sum
   Both : Sum → Sum → Sum
 
--- the steps that make a sum, and those of them that name its rows
+-- the steps that make a sum
 abbrev pub steps_of : Sum → List PolStep
 steps_of (Row operand) = operand ∷ []
 steps_of (Both first second) = steps_of first ++ (steps_of second ++ Add ∷ [])
 
+-- the steps that name the rows of a sum, in their order
 abbrev pub operands_of : Sum → List PolStep
 operands_of (Row operand) = operand ∷ []
 operands_of (Both first second) = operands_of first ++ operands_of second

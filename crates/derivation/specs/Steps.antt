@@ -48,12 +48,13 @@ NamesLiveRow live (UnitRow id) = IsTrue (is_numbered id.0 live)
 NamesLiveRow live (BoundRow id) = IsTrue (is_numbered id.0 live)
 NamesLiveRow live note = ⊥
 
--- a unit or a bound note, and the row that it names
+-- a unit or a bound note
 abbrev pub NamesARow : Note → Type 0
 NamesARow (UnitRow id) = Unit {0}
 NamesARow (BoundRow id) = Unit {0}
 NamesARow note = ⊥
 
+-- the row that a unit or a bound note names, and number 0 for any other note
 abbrev pub row_named : Note → RowNo
 row_named (UnitRow id) = id
 row_named (BoundRow id) = id
@@ -65,10 +66,11 @@ row_named note = record { 0 = 0 }
 abbrev pub written_of : PlainRow → Written
 written_of row = record { terms = row.terms; at_least = pos row.degree }
 
--- the literals of a point, by rising variable
+-- the literal of a variable that is true at a point
 abbrev pub literal_at : Point → ℕ → Lit
 literal_at p v = record { var = v; neg = not (p v) }
 
+-- the literals of the variables 1 to n that are true at a point, by rising variable
 abbrev pub literals_at : ℕ → Point → List Lit
 literals_at n p = map (literal_at p) (numbers_to n)
 
@@ -114,6 +116,7 @@ with_note note d = record d { held = after_note note d.held; pending = d.pending
 abbrev pub with_kept : ℕ → List ℕ → Derived → Derived
 with_kept n text d = record d { held = keeping (n ∷ []) d.held; pending = d.pending ++ text }
 
+-- a call added a note or, where it failed, did nothing
 abbrev pub TriesNote : {A E : Type 0} → Result A E → Note → Derived → Derived → Type 0
 TriesNote (Ok x) note old new = new ≡ with_note note old
 TriesNote (Err e) note old new = new ≡ old
@@ -126,6 +129,7 @@ end_lines claim = line_text Output ++ (line_text (Conclusion claim) ++ line_text
 abbrev pub concluded : Claim → Derived → Derived
 concluded claim d = record d { claim = Some claim; pending = d.pending ++ end_lines claim }
 
+-- a call made the claim or, where it failed, did nothing
 abbrev pub TriesEnd : {A E : Type 0} → Result A E → Claim → Derived → Derived → Type 0
 TriesEnd (Ok x) claim old new = new ≡ concluded claim old
 TriesEnd (Err e) claim old new = new ≡ old

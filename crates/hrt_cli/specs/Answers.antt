@@ -67,7 +67,7 @@ EndsFor stop ended.ReadFault = stop ≡ ReadFault
 EndsFor stop ended.WriteFault = ⊥
 EndsFor stop ended.NoMemory = Unit {0}
 
--- Each port that was begun for reading was read to its end, but for the one whose length limit was passed.
+-- the verdict is that the length limit of what is read on this port was passed
 abbrev pub PassedAt : Verdict → Port → Type 0
 PassedAt verdict Instance = verdict ≡ rejected (exceeded InstanceBytes)
 PassedAt verdict Pairs = verdict ≡ rejected (exceeded PairsBytes)
@@ -77,6 +77,7 @@ PassedAt verdict Report = ⊥
 PassedAt verdict ModelTwo = ⊥
 PassedAt verdict ProofTwo = ⊥
 
+-- each port that was begun for reading was read to its end, but for the one whose length limit was passed
 abbrev pub IsReadOut : Verdict → World → Type 0
 IsReadOut verdict w = (port : Port) → w.begun port ≡ Reading → (w.content.rest port ≡ []) ⊎ PassedAt verdict port
 
@@ -162,10 +163,12 @@ pub record IsCutAtReport (request : Option Request) (old new : World) : Type 0 w
 abbrev pub IsCutShort : Option Request → World → World → Type 0
 IsCutShort request old new = IsCutBefore request old new ⊎ IsCutAtReport request old new
 
+-- a write failed, and the run was cut short at its outputs or at its report
 pub record CutShort (told : Type 0) (request : Option Request) (old new : World) : Type 0 where
   pub rose : Rose old.write_faults new.write_faults
   pub cut_short : told → IsCutShort request old new
 
+-- a read failed, nothing was sent, and the files are as they were
 pub record ReadFailed (told : Type 0) (old new : World) : Type 0 where
   pub rose : Rose old.read_faults new.read_faults
   pub nothing : told → SendsNothing old.content new.content

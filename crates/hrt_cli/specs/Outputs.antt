@@ -14,11 +14,13 @@ pub record Output : Type 0 where
   pub name : List ℕ
   pub text : List ℕ
 
+-- the output of this text on this port, under this name
 abbrev pub output : Port → List ℕ → List ℕ → Output
 output port name text = record { port = port; name = name; text = text }
 
 -- ---- what is due
 
+-- the model under this name where a model is due, and else nothing
 abbrev pub model_outputs : List ℕ → Verdict → List Output
 model_outputs name (modeled lists) = output Model name (model_text lists) ∷ []
 model_outputs name misused = []
@@ -34,6 +36,7 @@ model_outputs name (matched lists deleted top text) = []
 abbrev pub both : List ℕ → List ℕ → Lists → List ℕ → List Output
 both name proof lists text = output Model name (model_text lists) ∷ output Proof proof text ∷ []
 
+-- the model and the proof under these names where a bound or a matching is due, and else nothing
 abbrev pub proof_outputs : List ℕ → List ℕ → Verdict → List Output
 proof_outputs name proof (bounded lists deleted top text) = both name proof lists text
 proof_outputs name proof (matched lists deleted top text) = both name proof lists text

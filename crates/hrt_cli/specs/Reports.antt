@@ -28,6 +28,7 @@ use Rattle.hrt_inputs.specs.Limits.{most}
 use Rattle.hrt_inputs.specs.Rejections.{refused, exceeded, pairs_refused, model_refused, proof_refused, truncated}
 use Rattle.hrt_cli.specs.Verdicts.{Verdict, misused, rejected, solved, audited, modeled, verified, checked, bounded, matched, on_verdict}
 
+-- a text with the line feed that ends it
 abbrev pub line : List ℕ → List ℕ
 line text = text ++ 10 ∷ []
 
@@ -48,6 +49,7 @@ names_line lists p =
 abbrev pub pair_line : Lists → ℕ → List ℕ
 pair_line lists p = line (pair_text lists p)
 
+-- the lines on an instance: how many residents, hospitals and pairs it has, and how many namings aren't answered
 abbrev pub instance_lines : Lists → List ℕ
 instance_lines lists =
     count_line (codes "residents") (length lists.residents) ++ count_line (codes "hospitals") (length lists.hospitals)
@@ -85,6 +87,7 @@ match_lines lists deleted top m = bound_lines lists deleted top ++ found_lines l
 abbrev pub last_line : ℕ → ℕ → List ℕ
 last_line size top = if size == top then line (codes "best") else count_line (codes "at most") top
 
+-- the report on a matching that was found without a search
 abbrev pub quick_report : Lists → ℕ → ℕ → List ℕ → List ℕ
 quick_report lists deleted top m = match_lines lists deleted top m ++ last_line (length m) top
 
@@ -118,6 +121,7 @@ name_of Variables = codes "variables"
 name_of Rows = codes "rows"
 name_of ProofBytes = codes "proof-bytes"
 
+-- the line on a limit that was passed: its word, and the most that is taken
 abbrev pub limit_line : Limit → List ℕ
 limit_line limit = codes "limit " ++ count_line (name_of limit) (most limit)
 
@@ -134,10 +138,12 @@ model_report lists = count_line (codes "variables") (pair_count lists) ++ count_
 
 -- ---- models and proofs
 
+-- the word for a kind of refusal of a model
 abbrev pub model_kind_word : ModelKind → List ℕ
 model_kind_word Syntax = codes "Syntax"
 model_kind_word TooBig = codes "TooBig"
 
+-- the word of a kind and the number that it names
 abbrev pub with_number : List ℕ → ℕ → List ℕ
 with_number kind n = kind ++ 32 ∷ decimal n
 
@@ -154,6 +160,7 @@ proof_kind_text why.NotImplied = codes "NotImplied"
 proof_kind_text why.BoundNotShown = codes "BoundNotShown"
 proof_kind_text why.WrongCount = codes "WrongCount"
 
+-- the report on a proof that is refused: the line, and the kind of its refusal
 abbrev pub proof_refusal_report : RefusalAt → List ℕ
 proof_refusal_report r = codes "proof refused line " ++ place_line r.line (proof_kind_text r.why)
 
@@ -178,6 +185,7 @@ abbrev pub points_report : Option ℤ → Option ℤ → List ℕ
 points_report lower upper =
     line (codes "accepted") ++ value_line (codes "lower") (number_or (codes "-INF") lower) ++ value_line (codes "upper") (number_or (codes "INF") upper)
 
+-- the report on what a valid proof claims of the points of a formula
 abbrev pub check_report : Claim → List ℕ
 check_report (Bounds lower upper) = points_report lower upper
 check_report Unsat = line (codes "accepted") ++ line (codes "unsatisfiable")
@@ -192,13 +200,14 @@ NamesDeclared lists (ResidentTwice r) = r < length lists.residents
 NamesDeclared lists (OverCapacity h) = h < length lists.hospitals
 NamesDeclared lists (Blocked p) = IsPairNo lists p.0
 
--- the text is a report for the verdict: of a solved instance it lists some best pairs by rising number
+-- the text is the report on some best pairs of the instance, listed by rising number
 pub record IsSolveReport (lists : Lists) (text : List ℕ) : Type 0 where
   pub pairs : List ℕ
   pub best : Best lists pairs
   pub rising : IsStrictlyIncreasing pairs
   pub is_report : text ≡ solve_report lists pairs
 
+-- the text is a report for the verdict
 abbrev pub IsReport : Verdict → List ℕ → Type 0
 IsReport misused text = text ≡ line (codes "words not understood")
 IsReport (rejected (refused r)) text = text ≡ codes "instance refused line " ++ place_line r.line (kind_word r.kind)

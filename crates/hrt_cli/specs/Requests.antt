@@ -19,6 +19,7 @@ abbrev pub is_file_name : List ℕ → Bool
 is_file_name [] = false
 is_file_name (b ∷ bytes) = not (b == 45)
 
+-- one name and no more
 abbrev pub one_file : List (List ℕ) → Option (List ℕ)
 one_file (file ∷ []) = if is_file_name file then Some file else None
 one_file _ = None
@@ -28,6 +29,7 @@ pub record TwoFiles : Type 0 where
   pub first : List ℕ
   pub second : List ℕ
 
+-- these two names in this order
 abbrev pub two : List ℕ → List ℕ → TwoFiles
 two first second = record { first = first; second = second }
 
@@ -43,6 +45,7 @@ pub record ThreeFiles : Type 0 where
   pub second : List ℕ
   pub third : List ℕ
 
+-- these three names in this order
 abbrev pub three : List ℕ → List ℕ → List ℕ → ThreeFiles
 three first second third = record { first = first; second = second; third = third }
 

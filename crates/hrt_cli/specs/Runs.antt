@@ -40,16 +40,19 @@ pub record IsReported (request : Option Request) (status : Status) (old new : Wo
   pub read_out : IsReadOut verdict new
   pub sends : SendsAll (outputs_of request verdict) old.content new.content
 
+-- the report was sent whole, no port is left begun for writing, and the run is misused just where the words ask for nothing
 pub record Reported (told : Type 0) (request : Option Request) (status : Status) (old new : World) : Type 0 where
   pub understood : (status ≡ Misused) ↔ (request ≡ None)
   pub closed : (port : Port) → new.begun port ≡ Writing → ⊥
   pub reported : told → IsReported request status old new
 
+-- the words ask for something, but a read failed, nothing was sent, and the files are as they were
 pub record Unread (told : Type 0) (request : Option Request) (old new : World) : Type 0 where
   pub understood : request ≡ None → ⊥
   pub rose : Rose old.read_faults new.read_faults
   pub nothing : told → SendsNothing old.content new.content
 
+-- the words ask for something, but nothing was sent, or fronts of the outputs, and no byte of the report
 pub record OutOfMemory (told : Type 0) (request : Option Request) (old new : World) : Type 0 where
   pub understood : request ≡ None → ⊥
   pub fronts : told → LeavesFronts request old.content new.content
@@ -74,6 +77,7 @@ EndsAs told request PairsRefused old new = Reported told request PairsRefused ol
 abbrev pub has_report : ℕ → Bool
 has_report n = not (n == 4 || n == 5 || n == 6)
 
+-- a code that some status has
 abbrev pub is_code : ℕ → Bool
 is_code n = n == 0 || n == 2 || n == 3 || n == 4 || n == 5 || n == 6 || n == 7 || n == 8 || n == 9 || n == 10 || n == 12
 

@@ -9,6 +9,7 @@ use Rattle.hrt_cli.specs.declared.status.Status.{Status}
 use Rattle.hrt_cli.specs.declared.status.Status.TheVariants.{Done, Misused, InstanceRefused, ReadFault, WriteFault, NoMemory, LimitExceeded, ProofRefused, AuditNo, Bounded, PairsRefused}
 use Rattle.hrt_cli.specs.Verdicts.{Verdict, misused, rejected, solved, audited, modeled, verified, checked, bounded, matched}
 
+-- the code that a run answers for a status
 abbrev pub code_of : Status → ℕ
 code_of Done = 0
 code_of Misused = 2

@@ -14,6 +14,7 @@ use Rattle.hrt_inputs.specs.Rejections.{Rejection, exceeded, proof_refused, trun
 use Rattle.hrt_inputs.specs.Taken.{formula_in, formula_of_instance, lists_in, of_few_terms, pairs_in, within}
 use Rattle.hrt_cli.specs.Requests.{Request, solve, audit, model, verify, check, bound, quick}
 
+-- what a run comes to: the words ask for nothing, a file isn't taken, or this is due
 pub data Verdict : Type 0 where
   misused : Verdict  -- the words ask for nothing
   rejected : Rejection → Verdict  -- a file isn't taken
@@ -34,6 +35,7 @@ abbrev pub due : Result Lists Rejection → (Lists → Verdict) → Verdict
 due (Err rejection) f = rejected rejection
 due (Ok lists) f = f lists
 
+-- what an instance of these bytes comes to where a best matching is asked for
 abbrev pub solve_verdict : List ℕ → Verdict
 solve_verdict bytes = due (within TriedPairs (lists_in bytes)) solved
 
@@ -42,6 +44,7 @@ abbrev pub on_pairs : Lists → Result (List ℕ) Rejection → Verdict
 on_pairs lists (Err rejection) = rejected rejection
 on_pairs lists (Ok pairs) = audited lists pairs
 
+-- what a text of pairs of these bytes comes to for the lists
 abbrev pub audit_verdict : Lists → List ℕ → Verdict
 audit_verdict lists bytes = on_pairs lists (pairs_in lists bytes)
 
@@ -50,10 +53,12 @@ abbrev pub on_lists : Result Lists Rejection → Option (List ℕ) → Option Ve
 on_lists (Err rejection) pairs = Some (rejected rejection)
 on_lists (Ok lists) pairs = option_map (audit_verdict lists) pairs
 
+-- what a file with an instance and a file with pairs come to: nothing where one that is read is absent
 abbrev pub on_file : Option (List ℕ) → Option (List ℕ) → Option Verdict
 on_file None pairs = None
 on_file (Some bytes) pairs = on_lists (of_few_terms (within Pairs (lists_in bytes))) pairs
 
+-- what an instance of these bytes comes to where its model is asked for
 abbrev pub model_verdict : List ℕ → Verdict
 model_verdict bytes = due (of_few_terms (within Pairs (lists_in bytes))) modeled
 
@@ -109,10 +114,11 @@ pub record ProofDue (claim : ℕ → Claim) (done : ℕ → ℕ → List ℕ →
 abbrev pub BoundDue : Lists → Verdict → Type 0
 BoundDue lists verdict = ProofDue bound_claim (bounded lists) lists verdict
 
--- and that one is as large as the first matching
+-- the claim that no weakly stable matching is larger than the ceiling, and that one is as large as the first matching
 abbrev pub first_claim : Lists → ℕ → Claim
 first_claim lists top = found_claim top (length (promotion lists))
 
+-- the first matching is due, and a proof that one is as large and that none is larger than the ceiling
 abbrev pub MatchDue : Lists → Verdict → Type 0
 MatchDue lists verdict = ProofDue (first_claim lists) (matched lists) lists verdict
 

@@ -49,6 +49,7 @@ pub record WritesFronts (told : Type 0) (outputs : List Output) (old new : World
 abbrev pub WritesInPart : (told : Type 0) → List Output → World → World → Type 0
 WritesInPart told outputs old new = WritesNothing told old new ⊎ WritesFronts told outputs old new
 
+-- a write failed, and nothing was written, or fronts of the outputs
 pub record FailsWriting (told : Type 0) (outputs : List Output) (old new : World) : Type 0 where
   pub part : WritesInPart told outputs old new
   pub rose : Rose old.write_faults new.write_faults

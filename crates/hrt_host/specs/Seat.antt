@@ -13,10 +13,11 @@ at_place f d [] i = d
 at_place f d (x ∷ xs) zero = f x
 at_place f d (x ∷ xs) (suc i) = at_place f d xs i
 
--- the bytes, and the name, of the file at a place
+-- the bytes of the file at a place, and none where there is no file
 abbrev pub bytes_at : List File → ℕ → List ℕ
 bytes_at files k = at_place (λ f. f.bytes.items) [] files k
 
+-- the name of the file at a place, and the empty one where there is no file
 abbrev pub name_at : List File → ℕ → List ℕ
 name_at files k = at_place (λ f. f.name.items) [] files k
 
@@ -57,10 +58,11 @@ abbrev pub kept : (List File → ℕ → List ℕ) → List File → List ℕ �
 kept at files here None = here
 kept at files here (Some k) = at files k
 
--- what was written at a seat, and the name under which it was
+-- what was written at a seat
 abbrev pub sent_by : List File → Seat → List ℕ
 sent_by files s = kept bytes_at files s.file.bytes.items s.sealed_at
 
+-- the name under which a seat was written
 abbrev pub name_by : List File → Seat → List ℕ
 name_by files s = kept name_at files s.file.name.items s.sealed_at
 
@@ -70,24 +72,28 @@ left_at at_rest room = 0
 left_at (reads file taken) room = 0
 left_at writes room = room
 
+-- the room that is left at a seat: none unless it is written
 abbrev pub left_of : Seat → ℕ
 left_of s = left_at s.stand s.file.room
 
--- whether a seat names only files below n, and is written at its own file
+-- whether the file that was sealed, if one was, is below n
 abbrev pub named_below : ℕ → Option ℕ → Bool
 named_below n None = true
 named_below n (Some k) = nat_lt k n
 
+-- whether the file that is read, if one is, is below n
 abbrev pub reads_below : ℕ → Stand → Bool
 reads_below n at_rest = true
 reads_below n (reads file taken) = nat_lt file n
 reads_below n writes = true
 
+-- whether a seat that is written is written at its own file and not at one that was sealed
 abbrev pub writes_here : Option ℕ → Stand → Bool
 writes_here sealed_at at_rest = true
 writes_here sealed_at (reads file taken) = true
 writes_here sealed_at writes = is_none sealed_at
 
+-- whether a seat names only files below n, and is written at its own file
 abbrev pub seat_below : ℕ → Seat → Bool
 seat_below n s = named_below n s.sealed_at && (reads_below n s.stand && writes_here s.sealed_at s.stand)
 
@@ -96,12 +102,13 @@ abbrev pub all_below : ℕ → List Seat → Bool
 all_below n [] = true
 all_below n (s ∷ ss) = seat_below n s && all_below n ss
 
--- 1 where a seat is written under a name, and else 0
+-- 1 where a seat that stands so is written and this name isn't empty, and else 0
 abbrev pub writer_at : Stand → List ℕ → ℕ
 writer_at at_rest name = 0
 writer_at (reads file taken) name = 0
 writer_at writes name = if length name == 0 then 0 else 1
 
+-- 1 where a seat is written under a name, and else 0
 abbrev pub writer_of : Seat → ℕ
 writer_of s = writer_at s.stand s.file.name.items
 

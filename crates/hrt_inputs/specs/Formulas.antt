@@ -49,6 +49,7 @@ StopsModelText formula (ProofRefused refusal) = ⊥
 StopsModelText formula ReadFault = ⊥
 StopsModelText formula NoMemory = Unit {0}
 
+-- the formula of a file could not be had, and this is why
 abbrev pub StopsModel : (told : Type 0) → List ℕ → Stop → World → World → Type 0
 StopsModel told name (Refused kind line) old new = ⊥
 StopsModel told name (Exceeded limit) old new = IsFormulaRejected told Model name ModelBytes formula_in (exceeded limit) old new

@@ -6,6 +6,7 @@ use Rattle.rank_tables.specs.WellFormed.{most_residents, most_hospitals, most_pa
 use Rattle.opb_text.specs.Limits.{most_rows, most_variables}
 use Rattle.proof_checker.specs.Limits.{most_proof_bytes}
 
+-- the most that a run takes of what the limit is on
 abbrev pub most : Limit → ℕ
 most Residents = most_residents
 most Hospitals = most_hospitals

@@ -46,6 +46,7 @@ pub record FailedToRead (told : Type 0) (old new : World) : Type 0 where
   pub only_read : OnlyRead told old new
   pub rose : Rose old.read_faults new.read_faults
 
+-- the lists of a file could not be had, and this is why
 abbrev pub StopsLoading : (told : Type 0) → List ℕ → Limit → Stop → World → World → Type 0
 StopsLoading told name limit (Refused kind line) old new = IsRejected told name limit (refused (record { line = line; kind = number kind })) old new
 StopsLoading told name limit (Exceeded what) old new = IsRejected told name limit (exceeded what) old new
@@ -82,6 +83,7 @@ pub record ArePairsRejected (told : Type 0) (name : List ℕ) (lists : Lists) (r
   pub out : told → (new.content.rest Pairs ≡ []) ⊎ (rejection ≡ exceeded PairsBytes)
   pub due : told → (bytes : List ℕ) × (old.content.file name ≡ Some bytes) × (pairs_in lists bytes ≡ Err rejection)
 
+-- the pairs of a file could not be had, and this is why
 abbrev pub StopsLoadingPairs : (told : Type 0) → List ℕ → Lists → Stop → World → World → Type 0
 StopsLoadingPairs told name lists (Refused kind line) old new = ⊥
 StopsLoadingPairs told name lists (Exceeded what) old new = ArePairsRejected told name lists (exceeded what) old new

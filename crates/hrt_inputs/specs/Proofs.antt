@@ -42,6 +42,7 @@ check_stop check.TooLong = Exceeded ProofBytes
 check_stop (check.Proof refusal) = ProofRefused refusal
 check_stop check.NoMemory = NoMemory
 
+-- the proof in a file was not accepted, and this is why
 abbrev pub StopsProof : (told : Type 0) → List ℕ → Formula → Stop → World → World → Type 0
 StopsProof told name f (Refused kind line) old new = ⊥
 StopsProof told name f (Exceeded limit) old new = IsProofTooLong told name limit old new

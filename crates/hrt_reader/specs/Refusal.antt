@@ -15,39 +15,44 @@ use Rattle.hrt_text.specs.Grammar.{is_capacity, value_from, words, groups_of, Fo
 
 -- what a list of lines declares
 
--- what a line says of a resident, and of a hospital
+-- what a line says of a resident: its name, and the items of its list
 pub record ResidentLine : Type 0 where
   pub name : List ℕ
   pub items : List Token
 
+-- what a line says of a hospital: its name, its capacity, and the items of its list
 pub record HospitalLine : Type 0 where
   pub name : List ℕ
   pub capacity : List ℕ
   pub items : List Token
 
--- the resident, and the hospital, that a line of this form declares, if it does
+-- the resident that a line of this form declares, if it does
 abbrev pub resident_by : Form → Option ResidentLine
 resident_by (resident name items) = Some (record { name = name; items = items })
 resident_by (hospital name capacity items) = None
 resident_by finish = None
 resident_by other = None
 
+-- the hospital that a line of this form declares, if it does
 abbrev pub hospital_by : Form → Option HospitalLine
 hospital_by (resident name items) = None
 hospital_by (hospital name capacity items) = Some (record { name = name; capacity = capacity; items = items })
 hospital_by finish = None
 hospital_by other = None
 
--- the residents and the hospitals that lines declare, in their order, and their names
+-- the residents that lines declare, in their order
 abbrev pub residents_of : List Row → List ResidentLine
 residents_of rows = filter_map (λ row. resident_by (form_of row)) rows
 
+-- the hospitals that lines declare, in their order
 abbrev pub hospitals_of : List Row → List HospitalLine
 hospitals_of rows = filter_map (λ row. hospital_by (form_of row)) rows
 
+-- the names of the residents that lines declare, in their order
 abbrev pub resident_names : List Row → List (List ℕ)
 resident_names rows = map (λ line. line.name) (residents_of rows)
 
+-- the names of the hospitals that lines declare, in their order
 abbrev pub hospital_names : List Row → List (List ℕ)
 hospital_names rows = map (λ line. line.name) (hospitals_of rows)
 
@@ -217,10 +222,11 @@ number_in names name = position_or_len (bytes_eq name) names
 abbrev pub groups_in : List (List ℕ) → List Token → List (List ℕ)
 groups_in names items = map (map (number_in names)) (unwrap_or (groups_of items) [])
 
--- a resident, and a hospital, as it is declared, with the numbers of the names in its list
+-- a resident as it is declared, with the numbers of the hospitals in its list
 abbrev pub resident_in : List (List ℕ) → ResidentLine → DraftResident
 resident_in hospitals line = record { name = line.name; groups = groups_in hospitals line.items }
 
+-- a hospital as it is declared, with the numbers of the residents in its list
 abbrev pub hospital_in : List (List ℕ) → HospitalLine → DraftHospital
 hospital_in residents line = record { name = line.name; capacity = value_from 0 line.capacity; groups = groups_in residents line.items }
 

@@ -20,10 +20,11 @@ group_text names (x ∷ y ∷ group) = 32 ∷ 40 ∷ (join_with_byte 32 (map (na
 abbrev pub items_text : List (List ℕ) → List (List ℕ) → List ℕ
 items_text names groups = flat_map (group_text names) groups
 
--- the line of a resident, and of a hospital, without its line feed
+-- the line of a resident, without its line feed
 abbrev pub resident_text : List (List ℕ) → DraftResident → List ℕ
 resident_text hospitals r = codes "resident" ++ 32 ∷ (r.name ++ 58 ∷ items_text hospitals r.groups)
 
+-- the line of a hospital, without its line feed
 abbrev pub hospital_text : List (List ℕ) → DraftHospital → List ℕ
 hospital_text residents h = codes "hospital" ++ 32 ∷ (h.name ++ 32 ∷ (decimal h.capacity ++ 58 ∷ items_text residents h.groups))
 

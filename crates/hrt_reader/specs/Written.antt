@@ -19,11 +19,12 @@ is_number names x = nat_lt x (length names)
 abbrev pub spaced : List (List ℕ) → ℕ → List ℕ
 spaced names x = 32 ∷ name_at names x
 
--- the line of resident r, and of hospital h
+-- the line of resident r
 abbrev pub line_of_resident : Lists → ℕ → List ℕ
 line_of_resident lists r =
     codes "resident " ++ (name_at (names_of_residents lists) r ++ 58 ∷ (items_text (names_of_hospitals lists) (groups_of_resident lists r) ++ 10 ∷ []))
 
+-- the line of hospital h
 abbrev pub line_of_hospital : Lists → ℕ → List ℕ
 line_of_hospital lists h =
     codes "hospital " ++ (name_at (names_of_hospitals lists) h ++ 32 ∷ (decimal (capacity_of lists h) ++ 58 ∷ (items_text (names_of_residents lists) (groups_of_hospital lists h) ++ 10 ∷ [])))

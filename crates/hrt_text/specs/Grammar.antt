@@ -59,15 +59,17 @@ pub data Form : Type 0 where
   finish : Form
   other : Form
 
--- the form of a line that begins with `resident`, with `hospital`, and with `end`, by what follows
+-- the form of a line that begins with `resident`, by what follows
 abbrev pub resident_form : List Token → Form
 resident_form (word name ∷ colon ∷ items) = resident name items
 resident_form _ = other
 
+-- the form of a line that begins with `hospital`, by what follows
 abbrev pub hospital_form : List Token → Form
 hospital_form (word name ∷ word capacity ∷ colon ∷ items) = hospital name capacity items
 hospital_form _ = other
 
+-- the form of a line that begins with `end`, by what follows
 abbrev pub finish_form : List Token → Form
 finish_form [] = finish
 finish_form _ = other

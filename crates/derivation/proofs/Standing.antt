@@ -21,14 +21,14 @@ use Rattle.proof_rules.specs.Notes.{IsTrueNote}
 use Rattle.proof_rules.specs.Told.{IsTrueAt, NoteAt, Tells, held_after, noted}
 use Rattle.proof_rules.proofs.Told.{notes-line, tells-line, tells-start}
 use Rattle.proof_rules.proofs.Verdicts.{step-moves}
-use Rattle.derivation.specs.Derived.{Derived, Leads, StandsFor, StaysSent, StaysValid, place_of}
+use Rattle.derivation.specs.Derived.{Derived, IsProofUpTo, StandsFor, StaysSent, StaysValid, place_of}
 use Rattle.derivation.specs.Steps.{IsWritable, Takes, concluded, emptied, end_lines, with_note}
 use Rattle.derivation.proofs.Spelled.{line_is_one, line_reads, note_is_one, note_reads}
 use Rattle.derivation.proofs.NotesOfLines.{no_note, note_comment}
 
 -- ---- one line
 
-module _ (lists : Lists) (bytes : List ℕ) (line : Line) (here there : Place) (held : Held) (leads : Leads lists bytes here held) (writable : IsWritable line) (other : line ≡ Comment → ⊥) (moves : Moves (formula lists) here line there) where
+module _ (lists : Lists) (bytes : List ℕ) (line : Line) (here there : Place) (held : Held) (leads : IsProofUpTo lists bytes here held) (writable : IsWritable line) (other : line ≡ Comment → ⊥) (moves : Moves (formula lists) here line there) where
   reads : read_line (spelling line) ≡ Some line
   reads = line_reads line writable
 
@@ -38,7 +38,7 @@ module _ (lists : Lists) (bytes : List ℕ) (line : Line) (here there : Place) (
   held_is : held_after here (spelling line) held ≡ after_line here (Some line) held
   held_is = ap₂ (λ (n : Option Note) (o : Option Line). after_any_note n (after_line here o held)) silent reads
 
-  pub leads_line : Leads lists (bytes ++ line_text line) there (after_line here (Some line) held)
+  pub leads_line : IsProofUpTo lists (bytes ++ line_text line) there (after_line here (Some line) held)
   leads_line = record {
     tells = subst (λ (h : Held). Tells lists (bytes ++ line_text line) there h) held_is (tells-line lists bytes (spelling line) line here there held leads.tells (line_is_one line writable) reads moves);
     notes_true = notes-line lists bytes (spelling line) here held leads.tells (line_is_one line writable) leads.notes_true
@@ -47,7 +47,7 @@ module _ (lists : Lists) (bytes : List ℕ) (line : Line) (here there : Place) (
 
 -- ---- one note
 
-module _ (lists : Lists) (bytes : List ℕ) (note : Note) (s : State) (held : Held) (leads : Leads lists bytes (Proving s) held) (made : IsTrue (is_made_note note)) (short : length (note_text note) ≤ most_bytes) (so : IsTrueNote lists s.live held note) where
+module _ (lists : Lists) (bytes : List ℕ) (note : Note) (s : State) (held : Held) (leads : IsProofUpTo lists bytes (Proving s) held) (made : IsTrue (is_made_note note)) (short : length (note_text note) ≤ most_bytes) (so : IsTrueNote lists s.live held note) where
   says : note_in (note_spelling note) ≡ Some note
   says = note_reads note made short
 
@@ -60,7 +60,7 @@ module _ (lists : Lists) (bytes : List ℕ) (note : Note) (s : State) (held : He
   here_now : NoteAt
   here_now = record { place = Proving s; held = held; note = note }
 
-  pub leads_note : Leads lists (bytes ++ note_text note) (Proving s) (after_note note held)
+  pub leads_note : IsProofUpTo lists (bytes ++ note_text note) (Proving s) (after_note note held)
   unfolding here_now
   leads_note = record {
     tells = subst (λ (h : Held). Tells lists (bytes ++ note_text note) (Proving s) h) held_now
@@ -73,22 +73,22 @@ module _ (lists : Lists) (bytes : List ℕ) (note : Note) (s : State) (held : He
 -- ---- the calls
 
 -- a derivation that isn't concluded leads to its state
-open_leads : (text : List ℕ) (d : Derived) → d.claim ≡ None → StandsFor text d → Leads d.lists (text ++ d.pending) (Proving d.state) d.held
-open_leads text d e stands = subst (λ (claim : Option Claim). Leads d.lists (text ++ d.pending) (place_of claim d.state) d.held) e stands
+open_leads : (text : List ℕ) (d : Derived) → d.claim ≡ None → StandsFor text d → IsProofUpTo d.lists (text ++ d.pending) (Proving d.state) d.held
+open_leads text d e stands = subst (λ (claim : Option Claim). IsProofUpTo d.lists (text ++ d.pending) (place_of claim d.state) d.held) e stands
 
 pub stays-step : (line : Line) (old new : Derived) → IsWritable line → (line ≡ Comment → ⊥) → old.claim ≡ None → Takes line old new → StaysValid old new
 stays-step line old new w other begun taken text stands =
     subst (StandsFor text) (sym taken.is)
-    (subst (λ (claim : Option Claim). Leads old.lists (text ++ (old.pending ++ line_text line)) (place_of claim new.state) (after_line (Proving old.state) (Some line) old.held)) (sym begun)
-    (subst (λ (bytes : List ℕ). Leads old.lists bytes (Proving new.state) (after_line (Proving old.state) (Some line) old.held)) (append_assoc text old.pending (line_text line))
+    (subst (λ (claim : Option Claim). IsProofUpTo old.lists (text ++ (old.pending ++ line_text line)) (place_of claim new.state) (after_line (Proving old.state) (Some line) old.held)) (sym begun)
+    (subst (λ (bytes : List ℕ). IsProofUpTo old.lists bytes (Proving new.state) (after_line (Proving old.state) (Some line) old.held)) (append_assoc text old.pending (line_text line))
     (leads_line old.lists (text ++ old.pending) line (Proving old.state) (Proving new.state) old.held (open_leads text old begun stands) w other (step-moves (formula old.lists) old.state line new.state taken.step))))
 
 pub stays-note : (note : Note) (old new : Derived) → IsTrue (is_made_note note) → length (note_text note) ≤ most_bytes → IsTrueNote old.lists old.state.live old.held note → old.claim ≡ None → new ≡ with_note note old →
     StaysValid old new
 stays-note note old new made short so begun is text stands =
     subst (StandsFor text) (sym is)
-    (subst (λ (claim : Option Claim). Leads old.lists (text ++ (old.pending ++ note_text note)) (place_of claim old.state) (after_note note old.held)) (sym begun)
-    (subst (λ (bytes : List ℕ). Leads old.lists bytes (Proving old.state) (after_note note old.held)) (append_assoc text old.pending (note_text note))
+    (subst (λ (claim : Option Claim). IsProofUpTo old.lists (text ++ (old.pending ++ note_text note)) (place_of claim old.state) (after_note note old.held)) (sym begun)
+    (subst (λ (bytes : List ℕ). IsProofUpTo old.lists bytes (Proving old.state) (after_note note old.held)) (append_assoc text old.pending (note_text note))
     (leads_note old.lists (text ++ old.pending) note old.state old.held (open_leads text old begun stands) made short so)))
 
 -- ---- the end
@@ -112,25 +112,25 @@ end_writable = record { made = refl; small = refl; short = lit≤ tt }
 pub header_writable : IsWritable Header
 header_writable = record { made = refl; small = refl; short = lit≤ tt }
 
-module _ (lists : Lists) (bytes : List ℕ) (s : State) (held : Held) (claim : Claim) (leads : Leads lists bytes (Proving s) held) (writable : IsWritable (Conclusion claim)) (shown : Shows (formula lists) s claim) where
-  leads_output : Leads lists (bytes ++ line_text Output) (Closing s) held
+module _ (lists : Lists) (bytes : List ℕ) (s : State) (held : Held) (claim : Claim) (leads : IsProofUpTo lists bytes (Proving s) held) (writable : IsWritable (Conclusion claim)) (shown : Shows (formula lists) s claim) where
+  leads_output : IsProofUpTo lists (bytes ++ line_text Output) (Closing s) held
   leads_output = leads_line lists bytes Output (Proving s) (Closing s) held leads output_writable (λ e. absurd (cc)) (output_moves claim writable.small lists s)
 
-  leads_claim : Leads lists ((bytes ++ line_text Output) ++ line_text (Conclusion claim)) (Claimed claim) held
+  leads_claim : IsProofUpTo lists ((bytes ++ line_text Output) ++ line_text (Conclusion claim)) (Claimed claim) held
   leads_claim =
       leads_line lists (bytes ++ line_text Output) (Conclusion claim) (Closing s) (Claimed claim) held leads_output writable (λ e. absurd (cc)) (claim_moves claim writable.small lists s shown)
 
-  leads_done : Leads lists (((bytes ++ line_text Output) ++ line_text (Conclusion claim)) ++ line_text End) (Done claim) held
+  leads_done : IsProofUpTo lists (((bytes ++ line_text Output) ++ line_text (Conclusion claim)) ++ line_text End) (Done claim) held
   leads_done =
       leads_line lists ((bytes ++ line_text Output) ++ line_text (Conclusion claim)) End (Claimed claim) (Done claim) held leads_claim end_writable (λ e. absurd (cc)) (end_moves claim writable.small lists)
 
-  pub leads_end : Leads lists (bytes ++ end_lines claim) (Done claim) held
-  leads_end = subst (λ (all : List ℕ). Leads lists all (Done claim) held)
+  pub leads_end : IsProofUpTo lists (bytes ++ end_lines claim) (Done claim) held
+  leads_end = subst (λ (all : List ℕ). IsProofUpTo lists all (Done claim) held)
       (append_assoc (bytes ++ line_text Output) (line_text (Conclusion claim)) (line_text End) ∙ append_assoc bytes (line_text Output) (line_text (Conclusion claim) ++ line_text End)) leads_done
 
 concluded_leads : (claim : Claim) (old : Derived) (text : List ℕ) → IsWritable (Conclusion claim) → Shows (formula old.lists) old.state claim → old.claim ≡ None → StandsFor text old → StandsFor text (concluded claim old)
 concluded_leads claim old text w shown begun stands =
-    subst (λ (bytes : List ℕ). Leads old.lists bytes (Done claim) old.held) (append_assoc text old.pending (end_lines claim))
+    subst (λ (bytes : List ℕ). IsProofUpTo old.lists bytes (Done claim) old.held) (append_assoc text old.pending (end_lines claim))
     (leads_end old.lists (text ++ old.pending) old.state old.held claim (open_leads text old begun stands) w shown)
 
 -- after the text of a claim, of a derivation that is seen
@@ -144,7 +144,7 @@ stays-end claim old new w shown begun is text stands = subst (StandsFor text) (s
 -- ---- the start
 
 pub stands-first : (lists : Lists) (count : Line) → IsWritable count → (count ≡ Comment → ⊥) → Moves (formula lists) Headed count (Proving (first_state (formula lists))) →
-    Leads lists (line_text Header ++ line_text count) (Proving (first_state (formula lists))) (first_held lists)
+    IsProofUpTo lists (line_text Header ++ line_text count) (Proving (first_state (formula lists))) (first_held lists)
 stands-first lists count w other moves =
     leads_line lists (line_text Header) count Headed (Proving (first_state (formula lists))) (first_held lists)
     (leads_line lists [] Header Start Headed (first_held lists) (record { tells = tells-start lists; notes_true = All-nil (IsTrueAt lists) }) header_writable (λ e. absurd (cc)) (record { leads = refl; owed = tt }))
@@ -155,7 +155,7 @@ stands-first lists count w other moves =
 pub stays-sent : (old new : Derived) → new ≡ emptied old → StaysSent old new
 stays-sent old new is text stands =
     subst (StandsFor (text ++ old.pending)) (sym is)
-    (subst (λ (bytes : List ℕ). Leads old.lists bytes (place_of old.claim old.state) old.held) (sym (append-nil (text ++ old.pending))) stands)
+    (subst (λ (bytes : List ℕ). IsProofUpTo old.lists bytes (place_of old.claim old.state) old.held) (sym (append-nil (text ++ old.pending))) stands)
 
 pub sent_is : (seen old : Derived) (pending : List ℕ) → seen ≡ old → pending ≡ [] → record seen { pending = pending } ≡ emptied old
 sent_is seen old pending same none = ap (λ (bytes : List ℕ). record seen { pending = bytes }) none ∙ ap emptied same

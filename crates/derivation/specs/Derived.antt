@@ -24,13 +24,13 @@ place_of None s = Proving s
 place_of (Some claim) s = Done claim
 
 -- the bytes are whole lines, as far as they go a valid proof of the model with true notes, and lead to the place
-pub record Leads (lists : Lists) (bytes : List ℕ) (place : Place) (held : Held) : Type 0 where
+pub record IsProofUpTo (lists : Lists) (bytes : List ℕ) (place : Place) (held : Held) : Type 0 where
   pub tells : Tells lists bytes place held
   pub notes_true : AreTrueNotes lists bytes
 
 -- the text and the pending bytes lead to exactly what the derivation shows
 abbrev pub StandsFor : List ℕ → Derived → Type 0
-StandsFor text d = Leads d.lists (text ++ d.pending) (place_of d.claim d.state) d.held
+StandsFor text d = IsProofUpTo d.lists (text ++ d.pending) (place_of d.claim d.state) d.held
 
 -- for whatever text it stood before a call, it stands for that text after it
 abbrev pub StaysValid : Derived → Derived → Type 0

@@ -16,7 +16,7 @@ use Rattle.stability_model.proofs.GoneLocal.{count_same_in}
 use Rattle.pair_reduction.specs.declared.sides.Side.{Side}
 use Rattle.pair_reduction.specs.Sides.{is_free, is_passed, list_of, pairs_on, places, rank_on}
 use Rattle.pair_reduction.proofs.TwoSides.{listed_once}
-use Rattle.pair_reduction.specs.Ranks.{AreRanks, AreRising, count_within}
+use Rattle.pair_reduction.specs.Ranks.{AreRanks, AreRisingRanks, count_within}
 
 -- ---- how many are within
 
@@ -101,7 +101,7 @@ ranks_sorted : (ranks sorted : List ℕ) (r : ℕ) → IsPermutation ranks sorte
 ranks_sorted ranks sorted r h = sum_by-IsPermutation (λ x. if nat_le x r then 1 else 0) ranks sorted h
 
 pub ranks_done : (side : Side) (lists : Lists) (marked : Pairs) (n i : ℕ) (ps : List PairNo) (ranks sorted : List ℕ) → AreRanks side lists marked (numbers_of (take i ps)) ranks → IsPermutation ranks sorted → IsNonDecreasing sorted → length ps ≤ i →
-    is_distinct (numbers_of ps) ≡ true → ((p : ℕ) → is_in p (numbers_of ps) ≡ is_in p (pairs_on side lists n)) → AreRising side lists marked (pairs_on side lists n) sorted
+    is_distinct (numbers_of ps) ≡ true → ((p : ℕ) → is_in p (numbers_of ps) ≡ is_in p (pairs_on side lists n)) → AreRisingRanks side lists marked (pairs_on side lists n) sorted
 ranks_done side lists marked n i ps ranks sorted are moved rising all distinct alike = record {
   rising = rising;
   ranks_are = λ r.
@@ -120,7 +120,7 @@ turned true false c e = refl
 turned false true c e = e
 turned false false c e = refl
 
-pub passed_by_ranks : (side : Side) (lists : Lists) (marked : Pairs) (n w most rank : ℕ) (ranks : List ℕ) → AreRising side lists marked (pairs_on side lists n) ranks → list_of side lists w ≡ n → most ≡ places side lists n → rank ≡ rank_on side lists w → 1 ≤ rank →
+pub passed_by_ranks : (side : Side) (lists : Lists) (marked : Pairs) (n w most rank : ℕ) (ranks : List ℕ) → AreRisingRanks side lists marked (pairs_on side lists n) ranks → list_of side lists w ≡ n → most ≡ places side lists n → rank ≡ rank_on side lists w → 1 ≤ rank →
     nat_le most (count_within ranks (rank - 1)) ≡ is_passed side lists marked w
 passed_by_ranks side lists marked n w most rank ranks are list few value some =
     let tests : (q : ℕ) → is_in q (pairs_on side lists n) ≡ true → (nat_lt (rank_on side lists q) (rank_on side lists w) && marked q) ≡ (marked q && nat_le (rank_on side lists q) (rank - 1)) =
@@ -182,7 +182,7 @@ regrouped false b c = refl
 one_fewer : (a b c : ℕ) → a ≡ b + 1 → nat_lt a (c + 1) ≡ nat_lt b c
 one_fewer a b c e = same_bools (nat_lt a (c + 1)) (nat_lt b c) (λ h. lt-ltb b c (let l = ltb-true a (c + 1) h in omega arith)) (λ h. lt-ltb a (c + 1) (let l = ltb-true b c h in omega arith))
 
-module _ (side : Side) (lists : Lists) (gone : Pairs) (p most rank : ℕ) (ranks : List ℕ) (are : AreRising side lists (λ q. not (gone q)) (pairs_on side lists (list_of side lists p)) ranks) (few : most ≡ places side lists (list_of side lists p)) (value : rank ≡ rank_on side lists p) where
+module _ (side : Side) (lists : Lists) (gone : Pairs) (p most rank : ℕ) (ranks : List ℕ) (are : AreRisingRanks side lists (λ q. not (gone q)) (pairs_on side lists (list_of side lists p)) ranks) (few : most ≡ places side lists (list_of side lists p)) (value : rank ≡ rank_on side lists p) where
   left : count_within ranks rank ≡ count_by (λ q. not (gone q) && nat_le (rank_on side lists q) (rank_on side lists p)) (pairs_on side lists (list_of side lists p))
   left = are.ranks_are rank ∙ ap (λ (r : ℕ). count_by (λ q. not (gone q) && nat_le (rank_on side lists q) r) (pairs_on side lists (list_of side lists p))) value
 

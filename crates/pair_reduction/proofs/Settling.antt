@@ -13,7 +13,7 @@ use Rattle.pair_reduction.specs.declared.sides.Side.TheVariants.{Resident, Hospi
 use Rattle.pair_reduction.specs.declared.known.Known.{Known}
 use Rattle.pair_reduction.specs.Sides.{is_free, is_passed, list_count, list_of, other}
 use Rattle.pair_reduction.specs.Flags.{flag_count, is_marked, is_waiting}
-use Rattle.pair_reduction.specs.Known.{Drops, Gains, IsKept, IsOneMore, IsSettled, MarksFree, Pays, Rests, mark_count, marks_on, waiting_count, waiting_on}
+use Rattle.pair_reduction.specs.Known.{Drops, Gains, IsKept, IsOneMore, IsListSettled, MarksFree, Pays, Rests, mark_count, marks_on, waiting_count, waiting_on}
 use Rattle.pair_reduction.specs.Reduced.{IsClosedTo}
 use Rattle.pair_reduction.proofs.TwoSides.{by_side, free_grows, free_same, is_declared, other_twice, passed_grows, rule_a-passed, rule_b-passed}
 
@@ -67,7 +67,7 @@ mark_grows marks p q first last also h = elim (cases_eq q p) [
 
 pub settled_moves : (side : Side) (lists : Lists) (old new : Known) (n : ℕ) → ((q : ℕ) → IsPairNo lists q → list_of side lists q ≡ n → is_deleted new.gone q ≡ is_deleted old.gone q) →
     ((q : ℕ) → IsPairNo lists q → list_of side lists q ≡ n → is_marked (marks_on side old) q ≡ true → is_marked (marks_on side new) q ≡ true) →
-    ((q : ℕ) → IsPairNo lists q → list_of side lists q ≡ n → is_marked (marks_on (other side) new) q ≡ true → is_marked (marks_on (other side) old) q ≡ true) → IsSettled side lists old n → IsSettled side lists new n
+    ((q : ℕ) → IsPairNo lists q → list_of side lists q ≡ n → is_marked (marks_on (other side) new) q ≡ true → is_marked (marks_on (other side) old) q ≡ true) → IsListSettled side lists old n → IsListSettled side lists new n
 settled_moves side lists old new n gone more fewer settled = record {
   marked = λ p i e f. more p i e (settled.marked p i e (free_same side lists (is_deleted old.gone) (is_deleted new.gone) p (λ q j k. sym (gone q j (k ∙ e))) ∙ f));
   passed = λ w i e f. gone w i e ∙ settled.passed w i e (passed_grows side lists (is_marked (marks_on (other side) new)) (is_marked (marks_on (other side) old)) w (λ q j k. fewer q j (k ∙ e)) f);
@@ -85,7 +85,7 @@ module _ (side : Side) (lists : Lists) (old new : Known) (w : ℕ) (kept : IsKep
   across_within : list_of (other side) lists w < length (waiting_on (other side) old)
   across_within = omega (arith, is_declared (other side) lists w w_is, kept.flags (other side))
 
-  same_elsewhere : (s : Side) (n : ℕ) → (n ≡ list_of s lists w → ⊥) → IsSettled s lists old n → IsSettled s lists new n
+  same_elsewhere : (s : Side) (n : ℕ) → (n ≡ list_of s lists w → ⊥) → IsListSettled s lists old n → IsListSettled s lists new n
   same_elsewhere s n apart settled =
       settled_moves s lists old new n (λ q i e. drops.more.others q (λ f. apart (sym e ∙ ap (list_of s lists) f))) (λ q i e h. ap (λ (m : List Bool). is_marked m q) (drops.unmarked s) ∙ h)
       (λ q i e h. ap (λ (m : List Bool). is_marked m q) (sym (drops.unmarked (other s))) ∙ h) settled
@@ -97,7 +97,7 @@ module _ (side : Side) (lists : Lists) (old new : Known) (w : ℕ) (kept : IsKep
     flags = by_side (λ s. length (waiting_on s new) ≡ list_count s lists) side (ap length drops.rests ∙ kept.flags side)
         (ap length drops.waits ∙ length-set (waiting_on (other side) old) (list_of (other side) lists w) true ∙ kept.flags (other side));
     sound = λ s p i h. free_grows s lists (is_deleted old.gone) (is_deleted new.gone) p (was_or_is old.gone new.gone w drops.more) (kept.sound s p i (ap (λ (m : List Bool). is_marked m p) (sym (drops.unmarked s)) ∙ h));
-    watched = by_side (λ s. (n : ℕ) → n + 1 ≤ list_count s lists → is_waiting (waiting_on s new) n ≡ false → IsSettled s lists new n) side
+    watched = by_side (λ s. (n : ℕ) → n + 1 ≤ list_count s lists → is_waiting (waiting_on s new) n ≡ false → IsListSettled s lists new n) side
         (λ n declared h.
         let rests : is_waiting (waiting_on side old) n ≡ false = ap (λ (f : List Bool). is_waiting f n) (sym drops.rests) ∙ h in
         same_elsewhere side n (λ e. true≢false (sym visited ∙ ap (is_waiting (waiting_on side old)) (sym e) ∙ rests)) (kept.watched side n declared rests))
@@ -135,7 +135,7 @@ module _ (side : Side) (lists : Lists) (old new : Known) (p : ℕ) (kept : IsKep
         (ap length marks.waits ∙ length-set (waiting_on (other side) old) (list_of (other side) lists p) true ∙ kept.flags (other side));
     sound = by_side (λ s. (q : ℕ) → IsPairNo lists q → is_marked (marks_on s new) q ≡ true → is_free s lists (is_deleted new.gone) q ≡ true) side (λ q i h. as_new side q (sound_here q i h))
         (λ q i h. as_new (other side) q (kept.sound (other side) q i (ap (λ (m : List Bool). is_marked m q) (sym marks.unmarked) ∙ h)));
-    watched = by_side (λ s. (n : ℕ) → n + 1 ≤ list_count s lists → is_waiting (waiting_on s new) n ≡ false → IsSettled s lists new n) side
+    watched = by_side (λ s. (n : ℕ) → n + 1 ≤ list_count s lists → is_waiting (waiting_on s new) n ≡ false → IsListSettled s lists new n) side
         (λ n declared h.
         settled_moves side lists old new n (λ q i e. same_gone q) (λ q i e k. grown q i.0 k) (λ q i e k. ap (λ (m : List Bool). is_marked m q) (sym marks.unmarked) ∙ k)
         (kept.watched side n declared (ap (λ (f : List Bool). is_waiting f n) (sym marks.rests) ∙ h)))
@@ -151,22 +151,22 @@ module _ (side : Side) (lists : Lists) (old new : Known) (p : ℕ) (kept : IsKep
 
 -- ---- a list is settled
 
-pub kept_rests : (side : Side) (lists : Lists) (old new : Known) (n : ℕ) → IsKept lists old → IsSettled side lists old n → Rests side old new n → IsKept lists new
+pub kept_rests : (side : Side) (lists : Lists) (old new : Known) (n : ℕ) → IsKept lists old → IsListSettled side lists old n → Rests side old new n → IsKept lists new
 kept_rests side lists old new n kept settled rests = record {
   gone = ap length rests.gone ∙ kept.gone;
   marks = λ s. ap length (rests.marks s) ∙ kept.marks s;
   flags = by_side (λ s. length (waiting_on s new) ≡ list_count s lists) side (ap length rests.rests ∙ length-set (waiting_on side old) n false ∙ kept.flags side) (ap length rests.others ∙ kept.flags (other side));
   sound = λ s q i h.
       free_same s lists (is_deleted new.gone) (is_deleted old.gone) q (λ k j e. ap (λ (m : Deletions). is_deleted m k) rests.gone) ∙ kept.sound s q i (ap (λ (m : List Bool). is_marked m q) (sym (rests.marks s)) ∙ h);
-  watched = by_side (λ s. (m : ℕ) → m + 1 ≤ list_count s lists → is_waiting (waiting_on s new) m ≡ false → IsSettled s lists new m) side
+  watched = by_side (λ s. (m : ℕ) → m + 1 ≤ list_count s lists → is_waiting (waiting_on s new) m ≡ false → IsListSettled s lists new m) side
       (λ m declared h. as_before side m (elim (cases_eq m n) [
-        | inl e ↦ subst (IsSettled side lists old) (sym e) settled
+        | inl e ↦ subst (IsListSettled side lists old) (sym e) settled
         | inr differs ↦ kept.watched side m declared (sym (flag_other (waiting_on side old) n m false differs) ∙ ap (λ (f : List Bool). is_waiting f m) (sym rests.rests) ∙ h)
       ]))
       (λ m declared h. as_before (other side) m (kept.watched (other side) m declared (ap (λ (f : List Bool). is_waiting f m) (sym rests.others) ∙ h)));
 }
   where
-    as_before : (s : Side) (m : ℕ) → IsSettled s lists old m → IsSettled s lists new m
+    as_before : (s : Side) (m : ℕ) → IsListSettled s lists old m → IsListSettled s lists new m
     as_before s m =
         settled_moves s lists old new m (λ q i e. ap (λ (d : Deletions). is_deleted d q) rests.gone) (λ q i e h. ap (λ (f : List Bool). is_marked f q) (rests.marks s) ∙ h)
         (λ q i e h. ap (λ (f : List Bool). is_marked f q) (sym (rests.marks (other s))) ∙ h)
@@ -269,7 +269,7 @@ kept_first lists known a b c r h gone a_is sure b_is only c_is residents r_is ho
 -- ---- the end
 
 module _ (lists : Lists) (known : Known) (kept : IsKept lists known) (rests : (s : Side) (n : ℕ) → is_waiting (waiting_on s known) n ≡ false) where
-  settled_at : (s : Side) (p : ℕ) → IsPairNo lists p → IsSettled s lists known (list_of s lists p)
+  settled_at : (s : Side) (p : ℕ) → IsPairNo lists p → IsListSettled s lists known (list_of s lists p)
   settled_at s p i = kept.watched s (list_of s lists p) (omega (arith, is_declared s lists p i)) (rests s (list_of s lists p))
 
   all_passed : (s : Side) (w : ℕ) → IsPairNo lists w → is_passed s lists (is_free (other s) lists (is_deleted known.gone)) w ≡ true → is_deleted known.gone w ≡ true

@@ -15,8 +15,8 @@ use Rattle.pair_reduction.specs.declared.sides.Side.TheVariants.{Resident, Hospi
 use Rattle.pair_reduction.specs.declared.known.Known.{Known}
 use Rattle.pair_reduction.specs.Flags.{is_marked, is_waiting}
 use Rattle.pair_reduction.specs.Sides.{is_free, is_passed, list_of, other, pairs_on, places, rank_on}
-use Rattle.pair_reduction.specs.Known.{ArePassed, Drops, IsKept, IsOneMore, IsSettled, MarksFree, Pays, Waits, marks_on, waiting_on}
-use Rattle.pair_reduction.specs.Ranks.{AreRising, count_within}
+use Rattle.pair_reduction.specs.Known.{ArePassed, Drops, IsKept, IsOneMore, IsListSettled, MarksFree, Pays, Waits, marks_on, waiting_on}
+use Rattle.pair_reduction.specs.Ranks.{AreRisingRanks, count_within}
 use Rattle.pair_reduction.specs.Visits.{TriesDelete, TriesMark}
 use Rattle.pair_reduction.proofs.RankTests.{passed_by_ranks}
 use Rattle.pair_reduction.proofs.TwoSides.{listed, other_twice, passed_grows}
@@ -110,7 +110,7 @@ among : (side : Side) (lists : Lists) (n i p : ℕ) (ps : List PairNo) → lengt
 among side lists n i p ps all alike p_is on =
     ap (λ (qs : List PairNo). is_in p (numbers_of qs)) (take_all i ps all) ∙ alike p ∙ ap (λ (k : ℕ). is_in p (pairs_on side lists k)) (sym on) ∙ listed side lists p p_is
 
-pub marking_done : (side : Side) (lists : Lists) (start now : Known) (n i : ℕ) (ps : List PairNo) → length ps ≤ i → ((q : ℕ) → is_in q (numbers_of ps) ≡ is_in q (pairs_on side lists n)) → ArePassed side lists start n → Marking side lists start now (numbers_of (take i ps)) → IsSettled side lists now n
+pub marking_done : (side : Side) (lists : Lists) (start now : Known) (n i : ℕ) (ps : List PairNo) → length ps ≤ i → ((q : ℕ) → is_in q (numbers_of ps) ≡ is_in q (pairs_on side lists n)) → ArePassed side lists start n → Marking side lists start now (numbers_of (take i ps)) → IsListSettled side lists now n
 marking_done side lists start now n i ps all alike passed marking = record {
   marked = λ p p_is on h.
       marking.done p (among side lists n i p ps all alike p_is on) p_is.0 (ap (λ (m : Deletions). is_free side lists (is_deleted m) p) (sym marking.gone) ∙ h);
@@ -150,7 +150,7 @@ deleting_done side lists start now n i ps all alike deleting w w_is on h =
 
 -- ---- from the calls
 
-pub passed_test : (side : Side) (inst lists : Lists) (marked : Pairs) (w list most rank : ℕ) (ranks : List ℕ) (b : Bool) → inst ≡ lists → AreRising side lists marked (pairs_on side lists (list_of side lists w)) ranks → list ≡ list_of side inst w → most ≡ places side inst list → rank ≡ rank_on side inst w → 1 ≤ rank →
+pub passed_test : (side : Side) (inst lists : Lists) (marked : Pairs) (w list most rank : ℕ) (ranks : List ℕ) (b : Bool) → inst ≡ lists → AreRisingRanks side lists marked (pairs_on side lists (list_of side lists w)) ranks → list ≡ list_of side inst w → most ≡ places side inst list → rank ≡ rank_on side inst w → 1 ≤ rank →
     b ≡ nat_le most (count_within ranks (rank - 1)) → b ≡ is_passed side lists marked w
 passed_test side inst lists marked w list most rank ranks b same are here few value some test =
     test
@@ -183,18 +183,18 @@ dropped side across inst lists old mid after w list same far here waits more = r
     flags_same Hospital = refl
 
 -- the ranks of the pairs that aren't gone are the same while none is deleted
-pub ranks_now : (side : Side) (lists : Lists) (start now : Deletions) (n p : ℕ) (ranks same : List ℕ) → now ≡ start → list_of side lists p ≡ n → same ≡ ranks → AreRising side lists (λ q. not (is_deleted start q)) (pairs_on side lists n) ranks →
-    AreRising side lists (λ q. not (is_deleted now q)) (pairs_on side lists (list_of side lists p)) same
+pub ranks_now : (side : Side) (lists : Lists) (start now : Deletions) (n p : ℕ) (ranks same : List ℕ) → now ≡ start → list_of side lists p ≡ n → same ≡ ranks → AreRisingRanks side lists (λ q. not (is_deleted start q)) (pairs_on side lists n) ranks →
+    AreRisingRanks side lists (λ q. not (is_deleted now q)) (pairs_on side lists (list_of side lists p)) same
 ranks_now side lists start now n p ranks same e on f are =
-    subst (λ (m : Deletions). AreRising side lists (λ q. not (is_deleted m q)) (pairs_on side lists (list_of side lists p)) same) (sym e)
-    (subst (λ (k : ℕ). AreRising side lists (λ q. not (is_deleted start q)) (pairs_on side lists k) same) (sym on)
-    (subst (λ (xs : List ℕ). AreRising side lists (λ q. not (is_deleted start q)) (pairs_on side lists n) xs) (sym f) are))
+    subst (λ (m : Deletions). AreRisingRanks side lists (λ q. not (is_deleted m q)) (pairs_on side lists (list_of side lists p)) same) (sym e)
+    (subst (λ (k : ℕ). AreRisingRanks side lists (λ q. not (is_deleted start q)) (pairs_on side lists k) same) (sym on)
+    (subst (λ (xs : List ℕ). AreRisingRanks side lists (λ q. not (is_deleted start q)) (pairs_on side lists n) xs) (sym f) are))
 
 -- and those of the marked pairs while none is marked
 pub marked_now : (side : Side) (inst lists : Lists) (start now : Known) (across : Side) (marks : List Bool) (n p : ℕ) (ranks same : List ℕ) → inst ≡ lists → across ≡ other side → marks ≡ marks_on across start → ((s : Side) → marks_on s now ≡ marks_on s start) → list_of side inst p ≡ n → same ≡ ranks →
-    AreRising side inst (is_marked marks) (pairs_on side inst n) ranks → AreRising side lists (is_marked (marks_on (other side) now)) (pairs_on side lists (list_of side lists p)) same
+    AreRisingRanks side inst (is_marked marks) (pairs_on side inst n) ranks → AreRisingRanks side lists (is_marked (marks_on (other side) now)) (pairs_on side lists (list_of side lists p)) same
 marked_now side inst lists start now across marks n p ranks same e far is unmarked on f are =
-    subst (λ (l : Lists). AreRising side l (is_marked (marks_on (other side) now)) (pairs_on side l (list_of side l p)) same) e
-    (subst (λ (m : List Bool). AreRising side inst (is_marked m) (pairs_on side inst (list_of side inst p)) same) (is ∙ ap (λ (s : Side). marks_on s start) far ∙ sym (unmarked (other side)))
-    (subst (λ (k : ℕ). AreRising side inst (is_marked marks) (pairs_on side inst k) same) (sym on)
-    (subst (λ (xs : List ℕ). AreRising side inst (is_marked marks) (pairs_on side inst n) xs) (sym f) are)))
+    subst (λ (l : Lists). AreRisingRanks side l (is_marked (marks_on (other side) now)) (pairs_on side l (list_of side l p)) same) e
+    (subst (λ (m : List Bool). AreRisingRanks side inst (is_marked m) (pairs_on side inst (list_of side inst p)) same) (is ∙ ap (λ (s : Side). marks_on s start) far ∙ sym (unmarked (other side)))
+    (subst (λ (k : ℕ). AreRisingRanks side inst (is_marked marks) (pairs_on side inst k) same) (sym on)
+    (subst (λ (xs : List ℕ). AreRisingRanks side inst (is_marked marks) (pairs_on side inst n) xs) (sym f) are)))

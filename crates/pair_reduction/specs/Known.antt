@@ -28,7 +28,7 @@ abbrev pub ArePassed : Side → Lists → Known → ℕ → Type 0
 ArePassed side lists known n = (w : ℕ) → IsPairNo lists w → list_of side lists w ≡ n → is_passed side lists (is_marked (marks_on (other side) known)) w ≡ true → is_deleted known.gone w ≡ true
 
 -- the tests of a list say nothing new
-pub record IsSettled (side : Side) (lists : Lists) (known : Known) (n : ℕ) : Type 0 where
+pub record IsListSettled (side : Side) (lists : Lists) (known : Known) (n : ℕ) : Type 0 where
   pub marked : AreMarked side lists known n
   pub passed : ArePassed side lists known n
 
@@ -38,7 +38,7 @@ pub record IsKept (lists : Lists) (known : Known) : Type 0 where
   pub marks : (side : Side) → length (marks_on side known) ≡ pair_count lists
   pub flags : (side : Side) → length (waiting_on side known) ≡ list_count side lists
   pub sound : (side : Side) (p : ℕ) → IsPairNo lists p → is_marked (marks_on side known) p ≡ true → is_free side lists (is_deleted known.gone) p ≡ true
-  pub watched : (side : Side) (n : ℕ) → n + 1 ≤ list_count side lists → is_waiting (waiting_on side known) n ≡ false → IsSettled side lists known n
+  pub watched : (side : Side) (n : ℕ) → n + 1 ≤ list_count side lists → is_waiting (waiting_on side known) n ≡ false → IsListSettled side lists known n
 
 -- how many lists wait, on both sides together
 abbrev pub waiting_count : Known → ℕ

@@ -15,6 +15,6 @@ abbrev pub AreRanks : Side → Lists → Pairs → List ℕ → List ℕ → Typ
 AreRanks side lists marked ps ranks = (r : ℕ) → count_within ranks r ≡ count_by (λ q. marked q && nat_le (rank_on side lists q) r) ps
 
 -- these are the ranks of the marked pairs among some, rising
-pub record AreRising (side : Side) (lists : Lists) (marked : Pairs) (ps ranks : List ℕ) : Type 0 where
+pub record AreRisingRanks (side : Side) (lists : Lists) (marked : Pairs) (ps ranks : List ℕ) : Type 0 where
   pub rising : IsNonDecreasing ranks
   pub ranks_are : AreRanks side lists marked ps ranks

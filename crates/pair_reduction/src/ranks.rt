@@ -4,7 +4,7 @@ ghost use Rattle.std.specs.List.Sorted.{IsNonDecreasing};
 ghost use Rattle.rank_tables.specs.Instance.{pair_count};
 ghost use Rattle.derivation.specs.Deletions.{is_deleted};
 ghost use Rattle.pair_reduction.specs.Flags.{is_marked};
-ghost use Rattle.pair_reduction.specs.Ranks.{AreRising, count_within};
+ghost use Rattle.pair_reduction.specs.Ranks.{AreRisingRanks, count_within};
 ghost use Rattle.pair_reduction.specs.Sides.{list_count, pairs_on};
 
 use crate::sides::{Side, pairs_on, rank_on};
@@ -23,7 +23,7 @@ pub(crate) fn ranks_marked(
 ) -> Result<Vec<u32>, NoMemory>
     requires n { n < list_count side inst.now }
     requires marks { length marks.now ≡ pair_count inst.now }
-    ensures { IfOk result (λ ranks. AreRising side inst.now (is_marked marks.now) (pairs_on side inst.now n) ranks.items) }
+    ensures { IfOk result (λ ranks. AreRisingRanks side inst.now (is_marked marks.now) (pairs_on side inst.now n) ranks.items) }
 {
     let pairs = pairs_on(inst, side, n);
     let mut ranks = Vec::new(alloc);
@@ -45,7 +45,7 @@ pub(crate) fn ranks_left(
     gone: &Deleted,
 ) -> Result<Vec<u32>, NoMemory>
     requires { n < list_count side inst.now }
-    ensures { IfOk result (λ ranks. AreRising side inst.now (λ q. not (is_deleted gone.now q)) (pairs_on side inst.now n) ranks.items) }
+    ensures { IfOk result (λ ranks. AreRisingRanks side inst.now (λ q. not (is_deleted gone.now q)) (pairs_on side inst.now n) ranks.items) }
 {
     let pairs = pairs_on(inst, side, n);
     let mut ranks = Vec::new(alloc);

@@ -4,9 +4,9 @@ ghost use Rattle.rank_tables.specs.Instance.{pair_count};
 ghost use Rattle.rank_tables.specs.Tables.{IsPairNo};
 ghost use Rattle.derivation.specs.Deletions.{deleted_count, is_deleted};
 ghost use Rattle.pair_reduction.specs.Flags.{is_marked, is_waiting};
-ghost use Rattle.pair_reduction.specs.Known.{ArePassed, Gains, IsKept, IsSettled, Pays, marks_on, waiting_on};
+ghost use Rattle.pair_reduction.specs.Known.{ArePassed, Gains, IsKept, IsListSettled, Pays, marks_on, waiting_on};
 ghost use Rattle.pair_reduction.specs.Offered.{AreOffers, ReducesBy, offers_left};
-ghost use Rattle.pair_reduction.specs.Ranks.{AreRising};
+ghost use Rattle.pair_reduction.specs.Ranks.{AreRisingRanks};
 ghost use Rattle.pair_reduction.specs.Reduced.{CanReduce, GoesOn, HasRoom, Reduces};
 ghost use Rattle.pair_reduction.specs.Served.{FirstOf, IsDue, IsFirst, IsServed};
 ghost use Rattle.pair_reduction.specs.Sides.{is_free, list_count, list_of, other, pairs_on};
@@ -34,7 +34,7 @@ fn sooner(
 ) -> Option<PairNo>
     requires w { IsPairNo inst.now w.0 }
     requires first { IfSome first (λ p. IsPairNo inst.now p.0) }
-    requires marked { AreRising side inst.now (is_marked (marks_on (other side) known.now)) (pairs_on side inst.now (list_of side inst.now w.0)) marked.now }
+    requires marked { AreRisingRanks side inst.now (is_marked (marks_on (other side) known.now)) (pairs_on side inst.now (list_of side inst.now w.0)) marked.now }
     ensures { (ps : List ℕ) → FirstOf side inst.now known.now (list_of side inst.now w.0) ps first → FirstOf side inst.now known.now (list_of side inst.now w.0) (ps ++ w.0 ∷ []) result }
 {
     let most = places(inst, side, list_of(inst, side, w));
@@ -57,7 +57,7 @@ fn sooner(
 /// The first by rank of the pairs of a list that are to be deleted.
 fn first_due(inst: &Instance, known: &Known, side: Side, ranks: &[u32], n: u32) -> Option<PairNo>
     requires n { n < list_count side inst.now }
-    requires ranks { AreRising side inst.now (is_marked (marks_on (other side) known.now)) (pairs_on side inst.now n) ranks.now }
+    requires ranks { AreRisingRanks side inst.now (is_marked (marks_on (other side) known.now)) (pairs_on side inst.now n) ranks.now }
     ensures { FirstOf side inst.now known.now n (pairs_on side inst.now n) result }
 {
     let pairs = pairs_on(inst, side, n);
@@ -82,7 +82,7 @@ fn delete_if_passed(
     requires kept { IsKept model.now known.old }
     requires w { IsPairNo model.now w.0 }
     requires visited { is_waiting (waiting_on side known.old) (list_of side model.now w.0) ≡ true }
-    requires ranks { AreRising side model.now (is_marked (marks_on (other side) known.old)) (pairs_on side model.now (list_of side model.now w.0)) ranks.now }
+    requires ranks { AreRisingRanks side model.now (is_marked (marks_on (other side) known.old)) (pairs_on side model.now (list_of side model.now w.0)) ranks.now }
     requires served { IsDue side model.now known.old (list_of side model.now w.0) w.0 → IsServed side model.now deriv.old.state.live w.0 }
     requires room { HasRoom 0 model.now deriv.old known.old.gone }
     ensures reduces { OnOk result (Reduces model.now deriv.old deriv.new known.old.gone known.new.gone []) }
@@ -120,7 +120,7 @@ fn delete_each_passed(
     requires kept { IsKept model.now known.old }
     requires first { IsFirst side model.now known.old (list_of side model.now first.0) (pairs_on side model.now (list_of side model.now first.0)) first.0 }
     requires visited { is_waiting (waiting_on side known.old) (list_of side model.now first.0) ≡ true }
-    requires ranks { AreRising side model.now (is_marked (marks_on (other side) known.old)) (pairs_on side model.now (list_of side model.now first.0)) ranks.now }
+    requires ranks { AreRisingRanks side model.now (is_marked (marks_on (other side) known.old)) (pairs_on side model.now (list_of side model.now first.0)) ranks.now }
     requires served { IsServed side model.now deriv.old.state.live first.0 }
     requires room { HasRoom 0 model.now deriv.old known.old.gone }
     ensures reduces { OnOk result (Reduces model.now deriv.old deriv.new known.old.gone known.new.gone []) }
@@ -177,7 +177,7 @@ fn delete_all_passed(
 /// Tells whether a pair is free, by the ranks of its list's pairs that aren't gone.
 fn is_free(inst: &Instance, side: Side, gone: &Deleted, ranks: &[u32], p: PairNo) -> bool
     requires p { IsPairNo inst.now p.0 }
-    requires ranks { AreRising side inst.now (λ q. not (is_deleted gone.now q)) (pairs_on side inst.now (list_of side inst.now p.0)) ranks.now }
+    requires ranks { AreRisingRanks side inst.now (λ q. not (is_deleted gone.now q)) (pairs_on side inst.now (list_of side inst.now p.0)) ranks.now }
     ensures { result ≡ is_free side inst.now (is_deleted gone.now) p.0 }
 {
     let most = places(inst, side, list_of(inst, side, p));
@@ -198,7 +198,7 @@ fn mark_if_free(
 ) -> Result<(), NoMemory>
     requires kept { IsKept inst.now known.old }
     requires p { IsPairNo inst.now p.0 }
-    requires ranks { AreRising side inst.now (λ q. not (is_deleted known.old.gone q)) (pairs_on side inst.now (list_of side inst.now p.0)) ranks.now }
+    requires ranks { AreRisingRanks side inst.now (λ q. not (is_deleted known.old.gone q)) (pairs_on side inst.now (list_of side inst.now p.0)) ranks.now }
     ensures { OnOk result (TriesMark side inst.now known.old known.new p.0) }
 {
     if known.is_marked(side, p) {
@@ -227,7 +227,7 @@ fn mark_all_free(
     ensures kept { OnOk result (IsKept inst.now known.new) }
     ensures waits { OnOk result (is_waiting (waiting_on side known.new) n ≡ true) }
     ensures pays { OnOk result (Pays known.old known.new) }
-    ensures settled { OnOk result (IsSettled side inst.now known.new n) }
+    ensures settled { OnOk result (IsListSettled side inst.now known.new n) }
 {
     let ranks = ranks_left(alloc, inst, side, n, &known.gone)?;
     let pairs = pairs_on(inst, side, n);

@@ -49,9 +49,9 @@ pub record Goes (f : Formula) (line : Line) (from : Stage) (old : Kept) (to : St
   pub next : new.state.next ≤ old.state.next + 1
 
 -- the line leads from the one stage to the other, for whatever formula and in whatever state
-abbrev pub Leads : Line → Stage → Stage → Type 0
-Leads line from to = (f : Formula) (kept : Kept) → IsAt f from kept → Goes f line from kept to kept
+abbrev pub AlwaysLeads : Line → Stage → Stage → Type 0
+AlwaysLeads line from to = (f : Formula) (kept : Kept) → IsAt f from kept → Goes f line from kept to kept
 
 -- the line is refused, for whatever formula and in whatever state
-abbrev pub Stops : Line → Stage → Fault → Type 0
-Stops line from fault = (f : Formula) (s : State) → Halts f (place_of from s) line fault
+abbrev pub AlwaysHalts : Line → Stage → Fault → Type 0
+AlwaysHalts line from fault = (f : Formula) (s : State) → Halts f (place_of from s) line fault

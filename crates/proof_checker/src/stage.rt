@@ -7,7 +7,7 @@ ghost use Rattle.proof_rules.specs.States as states;
 ghost use Rattle.proof_rules.specs.Sound.{IsSoundState};
 ghost use Rattle.proof_checker.specs.Faults.{Halts};
 ghost use Rattle.proof_checker.specs.Kept.{Kept};
-ghost use Rattle.proof_checker.specs.Places.{Goes, HasRoomAt, IsAt, IsSoundAt, Leads, Stops, place_of};
+ghost use Rattle.proof_checker.specs.Places.{Goes, HasRoomAt, IsAt, IsSoundAt, AlwaysLeads, AlwaysHalts, place_of};
 
 use crate::claims::shows;
 use crate::fault::Fault;
@@ -37,8 +37,8 @@ pub enum Stage {
 
 /// What comes after the first line.
 fn after_start(line: &Line) -> Result<Stage, Fault>
-    ensures ok { IfOk result (Leads line.now Stage.Start) }
-    ensures refused { IfErr result (Stops line.now Stage.Start) }
+    ensures ok { IfOk result (AlwaysLeads line.now Stage.Start) }
+    ensures refused { IfErr result (AlwaysHalts line.now Stage.Start) }
 {
     match line {
         Line::Header => Ok(Stage::Headed),
@@ -120,8 +120,8 @@ fn after_closing(
 
 /// What comes after a line where the end line is due.
 fn after_claimed(claim: Claim, line: &Line) -> Result<Stage, Fault>
-    ensures ok { IfOk result (Leads line.now (Stage.Claimed claim)) }
-    ensures refused { IfErr result (Stops line.now (Stage.Claimed claim)) }
+    ensures ok { IfOk result (AlwaysLeads line.now (Stage.Claimed claim)) }
+    ensures refused { IfErr result (AlwaysHalts line.now (Stage.Claimed claim)) }
 {
     match line {
         Line::Blank => Ok(Stage::Claimed(claim)),
@@ -133,8 +133,8 @@ fn after_claimed(claim: Claim, line: &Line) -> Result<Stage, Fault>
 
 /// What comes after a line behind the end line.
 fn after_done(claim: Claim, line: &Line) -> Result<Stage, Fault>
-    ensures ok { IfOk result (Leads line.now (Stage.Done claim)) }
-    ensures refused { IfErr result (Stops line.now (Stage.Done claim)) }
+    ensures ok { IfOk result (AlwaysLeads line.now (Stage.Done claim)) }
+    ensures refused { IfErr result (AlwaysHalts line.now (Stage.Done claim)) }
 {
     match line {
         Line::Blank => Ok(Stage::Done(claim)),

@@ -1,6 +1,6 @@
 use Rattle.std.proofs.Common.{◌<◌, length, sym, subst, arith}
 use Rattle.rank_tables.specs.Instance.{Lists}
-use Rattle.pair_reduction.specs.Known.{ArePassed, IsKept, IsSettled, Pays, waiting_on}
+use Rattle.pair_reduction.specs.Known.{ArePassed, IsKept, IsListSettled, Pays, waiting_on}
 use Rattle.pair_reduction.proofs.Settling.{gains_rests, kept_rests}
 use Rattle.pair_reduction.proofs.visits.visit.Goals as goal
 
@@ -10,7 +10,7 @@ mark_all_free-requires-clause-passed c = subst (λ (l : Lists). ArePassed c.args
 pub returns-clause-kept : goal.returns-clause-kept
 returns-clause-kept c =
     kept_rests c.args.side c.args.model.now c.mark_all_free.new.known c.settle.new.self c.args.n (subst (λ (l : Lists). IsKept l c.mark_all_free.new.known) c.instance.ensures c.in_ok-mark_all_free.ensures.kept)
-    (subst (λ (l : Lists). IsSettled c.args.side l c.mark_all_free.new.known c.args.n) c.instance.ensures c.in_ok-mark_all_free.ensures.settled) c.settle.ensures
+    (subst (λ (l : Lists). IsListSettled c.args.side l c.mark_all_free.new.known c.args.n) c.instance.ensures c.in_ok-mark_all_free.ensures.settled) c.settle.ensures
 
 pub returns-clause-gains : goal.returns-clause-gains
 returns-clause-gains c =

@@ -11,7 +11,7 @@ use Rattle.rank_tables.proofs.PairFacts.{pair_at-acceptable}
 use Rattle.stability_model.specs.Gone.{AreGone, Pairs, ceiling, posts_left, residents_left}
 use Rattle.stability_model.proofs.Counts.{count_by_le, count_in_filter, sum_by_le}
 use Rattle.stability_model.proofs.GoneInNone.{count_matched, hospital_within, pairs_in, resident_within}
-use Rattle.stability_model.proofs.GoneLocal.{count_same_in}
+use Rattle.stability_model.proofs.SameCounts.{count_same_in}
 use Rattle.rank_tables.proofs.PairNumbers.{listed_pair, pair_of_hospital, pair_of_resident}
 use Rattle.capacity_bound.specs.Ceiling.{BoundsMatchings, IsCeiling}
 use Rattle.capacity_bound.proofs.ByKinds.{length_by_kinds}

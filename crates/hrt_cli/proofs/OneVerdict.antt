@@ -5,7 +5,7 @@ use Rattle.rank_tables.specs.Instance.{Lists, pair_count}
 use Rattle.rank_tables.specs.Numbers.{is_in, numbers_to}
 use Rattle.rank_tables.specs.Tables.{IsPairNo}
 use Rattle.rank_tables.proofs.Numbers.{is_in-numbers_to, same_bools}
-use Rattle.stability_model.proofs.GoneLocal.{count_same_in}
+use Rattle.stability_model.proofs.SameCounts.{count_same_in}
 use Rattle.pb_rows.specs.Formula.{Formula}
 use Rattle.proof_lines.specs.declared.line.Claim.{Claim}
 use Rattle.proof_rules.proofs.Verdicts.{one_verdict}

@@ -10,7 +10,7 @@ use Rattle.rank_tables.specs.Numbers.{is_in, numbers_to}
 use Rattle.rank_tables.proofs.Numbers.{is_in-numbers_to}
 use Rattle.stability_model.specs.Model.{at_most}
 use Rattle.stability_model.proofs.CoefRows.{at_most-row, coefs_over, filtered_within, minus_one}
-use Rattle.stability_model.proofs.GoneLocal.{count_same_in}
+use Rattle.stability_model.proofs.SameCounts.{count_same_in}
 use Rattle.pair_reduction.proofs.Quiet.{enough_open, open_sum, term_held}
 
 -- ---- sums over numbers

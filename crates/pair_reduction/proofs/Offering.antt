@@ -24,7 +24,7 @@ use Rattle.pair_reduction.specs.declared.known.Known.{Known}
 use Rattle.pair_reduction.specs.declared.offered.Offers.{Offers}
 use Rattle.pair_reduction.specs.Flags.{flag_count, is_marked}
 use Rattle.pair_reduction.specs.Known.{IsKept}
-use Rattle.pair_reduction.specs.Offered.{AreOffers, ReducesBy, is_offering, offers_left}
+use Rattle.pair_reduction.specs.Offered.{AreOffers, ReducesBy, is_offering}
 use Rattle.pair_reduction.specs.Offers.{offer_row}
 use Rattle.pair_reduction.specs.Reduced.{CanReduce, HasOffers, KeepsLive, Reduces}
 use Rattle.pair_reduction.specs.Sides.{is_passed}
@@ -109,11 +109,6 @@ by_then lists a b c x y z had has g h = record {
   offers = offers_kept lists b c has h.kept g.offers;
   stay = g.stay;
 }
-
--- what can still be made of what could be
-pub offers_further : (lists : Lists) (old now : Derived) (deletions : Deletions) (had has : Offers) (n : ℕ) → ReducesBy lists old now deletions deletions had has → n ≤ now.state.next + offers_left lists has → n ≤ old.state.next + offers_left lists had
-offers_further lists old now deletions had has n r few =
-    omega (arith, few, r.reduces.few, ap (λ (xs : List RowNo). length xs) r.more, length-append had.made.items r.made, most_offers lists now.state.live has r.offers)
 
 -- ---- one pair after another
 

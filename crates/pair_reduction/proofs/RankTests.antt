@@ -12,7 +12,7 @@ use Rattle.rank_tables.specs.Instance.{Lists}
 use Rattle.rank_tables.proofs.Numbers.{same_bools}
 use Rattle.stability_model.specs.Gone.{Pairs}
 use Rattle.stability_model.proofs.Counts.{count_alike}
-use Rattle.stability_model.proofs.GoneLocal.{count_same_in}
+use Rattle.stability_model.proofs.SameCounts.{count_same_in}
 use Rattle.pair_reduction.specs.declared.sides.Side.{Side}
 use Rattle.pair_reduction.specs.Sides.{is_free, is_passed, list_of, pairs_on, places, rank_on}
 use Rattle.pair_reduction.proofs.TwoSides.{listed_once}

@@ -300,15 +300,3 @@ room_for_ones lists old new before after r room = omega (arith, room, r.few, r.g
 
 pub ones_further : (lists : Lists) (old now : Derived) (before between : Deletions) (n : ℕ) → Reduces lists old now before between [] → n ≤ now.state.next + (pair_count lists - deleted_count between) → n ≤ old.state.next + (pair_count lists - deleted_count before)
 ones_further lists old now before between n r few = omega (arith, few, r.few, r.goes_on.later, r.can.pairs, count_by-le-length is_some between)
-
--- one at least is deleted, where a pair is that wasn't
-pub some_deleted : (lists : Lists) (old new : Derived) (before after : Deletions) (p : ℕ) → Reduces lists old new before after [] → is_deleted before p ≡ false → is_deleted after p ≡ true → deleted_count before < deleted_count after
-some_deleted lists old new before after p r absent there = by r.ids refl (unit_of after p) refl there
-  where
-    by : (ids : List ℕ) → r.ids ≡ ids → (o : Option RowNo) → unit_of after p ≡ o → is_some o ≡ true → deleted_count before < deleted_count after
-    by ids e None f h = absurd (true≢false (sym h))
-    by [] e (Some id) f h = elim (r.all p id f) [
-      | inl g ↦ absurd (true≢false (sym (ap is_some g) ∙ absent))
-      | inr g ↦ absurd (true≢false (sym g ∙ ap (is_in id.0) e))
-    ]
-    by (n ∷ ids) e (Some id) f h = omega (arith, r.count, ap length e)

@@ -137,11 +137,6 @@ served_now side lists start now old new p w ps first served kept deleting on due
     }))
     (served_kept side lists old new p kept served)
 
--- the first itself is deleted
-pub first_gone : (side : Side) (lists : Lists) (start now : Known) (p : ℕ) (ps qs : List ℕ) → IsFirst side lists start (list_of side lists p) qs p → Deleting side lists start now ps → ArePassed side lists now (list_of side lists p) → is_deleted now.gone p ≡ true
-first_gone side lists start now p ps qs first deleting passed =
-    passed p first.due.number refl (ap (λ (m : List Bool). is_passed side lists (is_marked m) p) (deleting.unmarked (other side)) ∙ first.due.passed)
-
 -- ---- from the calls
 
 pub first_of : (side : Side) (inst lists : Lists) (known : Known) (n : ℕ) (o : Option PairNo) (p : PairNo) → inst ≡ lists → o ≡ Some p → FirstOf side inst known n (pairs_on side inst n) o → IsFirst side lists known n (pairs_on side lists n) p.0

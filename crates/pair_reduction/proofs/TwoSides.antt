@@ -10,7 +10,7 @@ use Rattle.rank_tables.proofs.Numbers.{distinct-filter, distinct-numbers_to, is_
 use Rattle.rank_tables.proofs.PairFacts.{pair_at-acceptable}
 use Rattle.stability_model.specs.Gone.{Pairs, has_only, is_sure, rule_a, rule_b}
 use Rattle.stability_model.proofs.Counts.{count_by_le}
-use Rattle.stability_model.proofs.GoneLocal.{count_same_in}
+use Rattle.stability_model.proofs.SameCounts.{count_same_in}
 use Rattle.rank_tables.proofs.PairNumbers.{is_pair, pair_listed, pair_of_hospital, pair_of_resident}
 use Rattle.pair_reduction.specs.declared.sides.Side.{Side}
 use Rattle.pair_reduction.specs.declared.sides.Side.TheVariants.{Resident, Hospital}

@@ -128,7 +128,6 @@ fn delete_each_passed(
     ensures rests { OnOk result (waiting_on side known.new ≡ waiting_on side known.old) }
     ensures pays { OnOk result (Pays known.old known.new) }
     ensures passed { OnOk result (ArePassed side model.now known.new (list_of side model.now first.0)) }
-    ensures some { OnOk result (deleted_count known.old.gone < deleted_count known.new.gone) }
     ensures goes_on { GoesOn deriv.old deriv.new }
     ensures few { deriv.new.state.next ≤ deriv.old.state.next + (pair_count model.now - deleted_count known.old.gone) }
 {

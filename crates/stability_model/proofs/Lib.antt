@@ -11,6 +11,6 @@ mod RowSizes
 pub mod Counts
 pub mod GoneInNone
 pub mod GoneSteps
-pub mod GoneLocal
+pub mod SameCounts
 mod Worked
 pub mod CoefRows

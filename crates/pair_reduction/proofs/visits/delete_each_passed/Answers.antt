@@ -3,8 +3,8 @@ use Rattle.rank_tables.specs.Numbers.{is_in}
 use Rattle.rank_tables.specs.Instance.{Lists}
 use Rattle.pair_reduction.specs.Sides.{list_of, pairs_on}
 use Rattle.pair_reduction.proofs.GoingOn.{goes_further}
-use Rattle.pair_reduction.proofs.Reducing.{ones_further, reduces_more, reduces_none, room_for_ones, some_deleted}
-use Rattle.pair_reduction.proofs.Serving.{first_gone, same_list, served_now}
+use Rattle.pair_reduction.proofs.Reducing.{ones_further, reduces_more, reduces_none, room_for_ones}
+use Rattle.pair_reduction.proofs.Serving.{same_list, served_now}
 use Rattle.pair_reduction.proofs.Tested.{next_number}
 use Rattle.pair_reduction.proofs.Visiting.{deleting_done, deleting_more, deleting_none}
 use Rattle.pair_reduction.proofs.visits.delete_each_passed.Goals as goal
@@ -42,10 +42,3 @@ pub returns-clause-passed : goal.returns-clause-passed
 returns-clause-passed c =
     deleting_done c.args.side c.args.model.now c.args.known.now c.loop-w.known (list_of c.args.side c.args.model.now c.args.first.0) c.loop-w.w-index c.pairs_on-pairs.result.now c.loop-w-test.false
     (λ q. c.pairs_on-pairs.ensures.same q ∙ ap (is_in q) (ap (pairs_on c.args.side c.instance-inst.result.now) c.list_of.ensures.value ∙ ap (λ (l : Lists). pairs_on c.args.side l (list_of c.args.side l c.args.first.0)) c.instance-inst.ensures)) c.loop-w.invariant.deleting
-
-pub returns-clause-some : goal.returns-clause-some
-returns-clause-some c =
-    some_deleted c.args.model.now c.args.deriv.now c.loop-w.deriv c.args.known.now.gone c.loop-w.known.gone c.args.first.0 c.loop-w.invariant.reduces c.requires.first.due.left
-    (first_gone c.args.side c.args.model.now c.args.known.now c.loop-w.known c.args.first.0 _ _ c.requires.first c.loop-w.invariant.deleting
-    (deleting_done c.args.side c.args.model.now c.args.known.now c.loop-w.known (list_of c.args.side c.args.model.now c.args.first.0) c.loop-w.w-index c.pairs_on-pairs.result.now c.loop-w-test.false
-    (λ q. c.pairs_on-pairs.ensures.same q ∙ ap (is_in q) (ap (pairs_on c.args.side c.instance-inst.result.now) c.list_of.ensures.value ∙ ap (λ (l : Lists). pairs_on c.args.side l (list_of c.args.side l c.args.first.0)) c.instance-inst.ensures)) c.loop-w.invariant.deleting))

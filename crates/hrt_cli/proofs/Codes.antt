@@ -38,6 +38,20 @@ read_fault told request AuditNo old new ends e = absurd (cc)
 read_fault told request PairsRefused old new ends e = absurd (cc)
 read_fault told request Bounded old new ends e = absurd (cc)
 
+pub no_output_begun : (told : Type 0) (request : Option Request) (status : Status) (old new : World) → EndsAs told request status old new → code_of status ≡ 4
+    → (port : Port) → new.begun port ≡ Writing → port ≡ Report
+no_output_begun told request ReadFault old new ends e = ends.writers
+no_output_begun told request WriteFault old new ends e = absurd (cc)
+no_output_begun told request NoMemory old new ends e = absurd (cc)
+no_output_begun told request Done old new ends e = absurd (cc)
+no_output_begun told request Misused old new ends e = absurd (cc)
+no_output_begun told request InstanceRefused old new ends e = absurd (cc)
+no_output_begun told request LimitExceeded old new ends e = absurd (cc)
+no_output_begun told request ProofRefused old new ends e = absurd (cc)
+no_output_begun told request AuditNo old new ends e = absurd (cc)
+no_output_begun told request PairsRefused old new ends e = absurd (cc)
+no_output_begun told request Bounded old new ends e = absurd (cc)
+
 pub write_fault : (told : Type 0) (request : Option Request) (status : Status) (old new : World) → EndsAs told request status old new → code_of status ≡ 5
     → Rose old.write_faults new.write_faults
 write_fault told request WriteFault old new ends e = ends.rose

@@ -119,7 +119,11 @@ leaves_nothing told request old mid start read t = record {
 }
 
 pub read_ends : (told : Type 0) (request : Option Request) (ended : Ended) (old mid : World) → AtStart told old → GivesUp told ended old mid → EndsEarly told request ended old mid
-read_ends told request ended.ReadFault old mid start up = record { rose = up.rose; nothing = nothing_after told old mid start up.only_read }
+read_ends told request ended.ReadFault old mid start up = record {
+  rose = up.rose;
+  writers = λ p writing. port_no-injective p Report (writes_report told old start p ((up.only_read.writers p).0 writing));
+  nothing = nothing_after told old mid start up.only_read;
+}
 read_ends told request ended.WriteFault old mid start up = absurd up
 read_ends told request ended.NoMemory old mid start up = leaves_nothing told request old mid start up
 

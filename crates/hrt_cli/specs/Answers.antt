@@ -168,9 +168,10 @@ pub record CutShort (told : Type 0) (request : Option Request) (old new : World)
   pub rose : Rose old.write_faults new.write_faults
   pub cut_short : told → IsCutShort request old new
 
--- a read failed, nothing was sent, and the files are as they were
+-- a read failed, no output is begun, nothing was sent, and the files are as they were
 pub record ReadFailed (told : Type 0) (old new : World) : Type 0 where
   pub rose : Rose old.read_faults new.read_faults
+  pub writers : (port : Port) → new.begun port ≡ Writing → port ≡ Report
   pub nothing : told → SendsNothing old.content new.content
 
 -- a command was given up before the report

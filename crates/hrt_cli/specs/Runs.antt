@@ -46,10 +46,11 @@ pub record Reported (told : Type 0) (request : Option Request) (status : Status)
   pub closed : (port : Port) → new.begun port ≡ Writing → ⊥
   pub reported : told → IsReported request status old new
 
--- the words ask for something, but a read failed, nothing was sent, and the files are as they were
+-- the words ask for something, but a read failed, no output is begun, nothing was sent, and the files are as they were
 pub record Unread (told : Type 0) (request : Option Request) (old new : World) : Type 0 where
   pub understood : request ≡ None → ⊥
   pub rose : Rose old.read_faults new.read_faults
+  pub writers : (port : Port) → new.begun port ≡ Writing → port ≡ Report
   pub nothing : told → SendsNothing old.content new.content
 
 -- the words ask for something, but nothing was sent, or fronts of the outputs, and no byte of the report

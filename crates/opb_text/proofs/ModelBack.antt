@@ -1,5 +1,5 @@
 -- The text of a model is a spelling of the model's formula.
-use Rattle.std.proofs.Common.{◌≡◌, ◌∙◌, ℕ, zero, suc, ◌+◌, ◌*◌, ◌^◌, ◌≤◌, ◌==◌, nat_le, Bool, true, false, List, [], ◌∷◌, ◌++◌, length, map, filter, ℤ, pos, neg_ℤ, ◌-ℤ◌, refl, sym, ap, ap₂, subst, arith, if◌then◌else◌}
+use Rattle.std.proofs.Common.{◌≡◌, ◌∙◌, ℕ, zero, suc, ◌+◌, ◌*◌, ◌^◌, ◌≤◌, ◌==◌, nat_le, ◌&&◌, Bool, true, false, List, [], ◌∷◌, ◌++◌, length, map, filter, ℤ, pos, neg_ℤ, ◌-ℤ◌, refl, sym, ap, ap₂, subst, arith, if◌then◌else◌}
 use Rattle.std.specs.Prelude.{flat_map, slice_get, unwrap_or, option_map}
 use Rattle.std.specs.Int.RustNames.{unsigned_abs}
 use Rattle.std.specs.List.{All, AllByRecursion, list_all}
@@ -19,7 +19,8 @@ use Rattle.rank_tables.specs.Instance.{Lists, capacity_of, pair_at, pair_count}
 use Rattle.rank_tables.specs.WellFormed.{IsWellFormed, most_capacity, most_pairs}
 use Rattle.rank_tables.proofs.Below.{length-numbers_to}
 use Rattle.row_text.proofs.RowBack.{AllMade}
-use Rattle.stability_model.specs.Model.{formula, hospital_has_pair, hospital_row, hospital_rows, is_as_good_for_hospital, is_as_good_for_resident, objective, pair_row, resident_has_pair, resident_row, resident_rows, rows, stability_coef, term, written_rows}
+use Rattle.rank_tables.specs.Terms.{has_post, is_as_good_for_hospital, is_as_good_for_resident}
+use Rattle.stability_model.specs.Model.{formula, hospital_has_pair, hospital_row, hospital_rows, objective, pair_row, resident_has_pair, resident_row, resident_rows, rows, stability_coef, term, written_rows}
 use Rattle.opb_text.specs.Limits.{most_variables}
 use Rattle.opb_text.specs.Refusal.{Spells}
 use Rattle.opb_text.specs.Spelling.{canonical, header_line, model_text, objective_line, row_line}
@@ -94,7 +95,7 @@ pair_fine : (lists : Lists) → IsWellFormed lists → pair_count lists ≤ most
 pair_fine lists well few p =
     let posts : ℕ = capacity_of lists (pair_at lists p).hospital in
     model_row (pair_count lists) (λ q. pos (stability_coef lists p q)) _ (pos posts) few
-    (λ q. coef_by (q == p) (is_as_good_for_resident lists p q) (is_as_good_for_hospital lists p q) posts (posts_few lists well (pair_at lists p).hospital))
+    (λ q. coef_by (q == p) (is_as_good_for_resident lists p q) (has_post lists p && is_as_good_for_hospital lists p q) posts (posts_few lists well (pair_at lists p).hospital))
     (posts_few lists well (pair_at lists p).hospital)
 
 each : (P : Written → Type 0) (row : ℕ → Written) (ks : List ℕ) → ((k : ℕ) → P (row k)) → AllByRecursion P (map row ks)

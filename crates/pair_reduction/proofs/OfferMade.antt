@@ -126,7 +126,7 @@ module _ (lists : Lists) (formed : IsWellFormed lists) (q : ℕ) (q_is : IsPairN
   pub made_here : pol_row (pair_count d.lists) d.state.live steps ≡ Ok (offer_row lists q)
   made_here =
       ap₂ (λ (l : Lists) (s : List PolStep). pol_row (pair_count l) d.state.live s) (sym same) are
-      ∙ offer_made lists formed q q_is most most_posts few d.state.live deletions units only pair_live hospital_no hospital_live numbered line_writable.small
+      ∙ offer_made lists formed q q_is posts most most_posts few d.state.live deletions units only pair_live hospital_no hospital_live numbered line_writable.small
 
   pub offer_done : (new : Derived) → Takes (Pol steps) d new → new ≡ with_new_row (offer_row lists q) (line_text (Pol (offer_steps lists deletions q))) d
   offer_done new taken = taken_row steps d new (offer_row lists q) made_here taken ∙ ap (λ (s : List PolStep). with_new_row (offer_row lists q) (line_text (Pol s)) d) are

@@ -17,10 +17,10 @@ no_entry = record { resident = 0; hospital = 0; resident_rank = 0; hospital_rank
 abbrev pub capacity_in : List DraftHospital → ℕ → ℕ
 capacity_in hospitals h = unwrap_or (option_map (λ hospital. hospital.capacity) (slice_get hospitals h)) 0
 
--- the rank that a side gives a pair, and whether the pair counts: of a resident, where the hospital has a post
+-- the rank that a side gives a pair; the pair counts where its hospital has a post
 abbrev pub ranked_of : Side → List DraftHospital → PairEntry → Ranked
 ranked_of Resident hospitals entry = record { rank = entry.resident_rank; counts = nat_lt 0 (capacity_in hospitals entry.hospital) }
-ranked_of Hospital hospitals entry = record { rank = entry.hospital_rank; counts = true }
+ranked_of Hospital hospitals entry = record { rank = entry.hospital_rank; counts = nat_lt 0 (capacity_in hospitals entry.hospital) }
 
 -- the pairs of a row as a side ranks them
 abbrev pub ranked_row : Side → List DraftHospital → List PairEntry → List PairNo → List Ranked
@@ -34,11 +34,11 @@ IsEntryNo entries p = (1 ≤ p.0) × (p.0 ≤ length entries)
 abbrev pub counting : List Ranked → ℕ
 counting xs = count_by (λ (x : Ranked). x.counts) xs
 
--- how many are ranked at least as high as one that counts, itself among them
+-- the sum, over those that count, of how many are ranked at least as high, itself among them
 abbrev pub as_high : List Ranked → ℕ
 as_high xs = sum_by (λ (x : Ranked). if x.counts then count_by (λ (y : Ranked). nat_le y.rank x.rank) xs else 0) xs
 
--- from this rank on, none is lower than the one before
+-- the numbers of the ranks don't fall, and the first is at least this one
 abbrev pub IsRising : ℕ → List Ranked → Type 0
 IsRising rank [] = Unit {0}
 IsRising rank (x ∷ xs) = (rank ≤ x.rank) × IsRising x.rank xs

@@ -35,7 +35,7 @@ resident_names lists r h = is_in h (concat (groups_of_resident lists r))
 abbrev pub hospital_names : Lists → ℕ → ℕ → Bool
 hospital_names lists h r = is_in r (concat (groups_of_hospital lists h))
 
--- A resident and a hospital that name each other.
+-- A resident and a hospital, by their numbers.
 pub record Pair : Type 0 where
   pub resident : ℕ
   pub hospital : ℕ

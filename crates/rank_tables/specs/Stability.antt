@@ -20,7 +20,7 @@ is_matching lists m =
     && list_all (λ p. nat_le (uses_of_resident lists m (pair_at lists p).resident) 1) m
     && list_all (λ p. nat_le (uses_of_hospital lists m (pair_at lists p).hospital) (capacity_of lists (pair_at lists p).hospital)) m
 
--- the resident of p is in no pair of m, or ranks the hospital of p strictly higher
+-- the resident of p is in no pair of m, or ranks the hospital of p strictly higher than each hospital that it has in m
 abbrev pub resident_wants : Lists → List ℕ → ℕ → Bool
 resident_wants lists m p =
     list_all (λ q. not ((pair_at lists q).resident == (pair_at lists p).resident) || nat_lt (rank_by_resident lists p) (rank_by_resident lists q)) m
@@ -31,7 +31,7 @@ hospital_wants lists m p =
     nat_lt (uses_of_hospital lists m (pair_at lists p).hospital) (capacity_of lists (pair_at lists p).hospital)
     || list_any (λ q. (pair_at lists q).hospital == (pair_at lists p).hospital && nat_lt (rank_by_hospital lists p) (rank_by_hospital lists q)) m
 
--- p is outside m, and both of it want it
+-- p is outside m, and its resident and its hospital both want it
 abbrev pub blocks : Lists → List ℕ → ℕ → Bool
 blocks lists m p = not (is_in p m) && resident_wants lists m p && hospital_wants lists m p
 

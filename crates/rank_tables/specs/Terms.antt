@@ -1,16 +1,24 @@
 -- How many terms the rows of the 0/1 model of an instance have.
-use Rattle.std.specs.Prelude.{ℕ, ◌+◌, Bool, ◌&&◌, ◌||◌, ◌==◌, nat_le, nat_lt, if◌then◌else◌, length, count_by, sum_by}
+use Rattle.std.specs.Prelude.{ℕ, ◌+◌, Bool, ◌&&◌, ◌||◌, ◌==◌, nat_le, nat_lt, length, count_by, sum_by}
 use Rattle.rank_tables.specs.Numbers.{below, numbers_to}
 use Rattle.rank_tables.specs.Instance.{Lists, capacity_of, pair_at, pair_count, pairs_of_hospital, pairs_of_resident, rank_by_hospital, rank_by_resident}
 
--- whether the row of pair p has a term for pair q: for p itself, for another that its resident ranks at least as high where
--- its hospital has a post, and for another that its hospital ranks at least as high
+-- whether q is a pair of the resident of p, which ranks it at least as high as p
+abbrev pub is_as_good_for_resident : Lists → ℕ → ℕ → Bool
+is_as_good_for_resident lists p q = (pair_at lists q).resident == (pair_at lists p).resident && nat_le (rank_by_resident lists q) (rank_by_resident lists p)
+
+-- whether q is a pair of the hospital of p, which ranks it at least as high as p
+abbrev pub is_as_good_for_hospital : Lists → ℕ → ℕ → Bool
+is_as_good_for_hospital lists p q = (pair_at lists q).hospital == (pair_at lists p).hospital && nat_le (rank_by_hospital lists q) (rank_by_hospital lists p)
+
+-- whether the hospital of pair p has a post
+abbrev pub has_post : Lists → ℕ → Bool
+has_post lists p = nat_lt 0 (capacity_of lists (pair_at lists p).hospital)
+
+-- whether the row of pair p has a term for pair q: for p itself and, where its hospital has a post, for another that its
+-- resident or its hospital ranks at least as high
 abbrev pub has_term : Lists → ℕ → ℕ → Bool
-has_term lists p q =
-    q == p
-    || (if (pair_at lists q).resident == (pair_at lists p).resident && nat_le (rank_by_resident lists q) (rank_by_resident lists p)
-    then nat_lt 0 (capacity_of lists (pair_at lists p).hospital)
-    else ((pair_at lists q).hospital == (pair_at lists p).hospital && nat_le (rank_by_hospital lists q) (rank_by_hospital lists p)))
+has_term lists p q = q == p || (has_post lists p && (is_as_good_for_resident lists p q || is_as_good_for_hospital lists p q))
 
 -- the terms of all rows: of residents, of hospitals and of pairs
 abbrev pub model_terms : Lists → ℕ

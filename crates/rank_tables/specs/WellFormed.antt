@@ -42,7 +42,8 @@ is_group (x ∷ group) = true
 abbrev pub is_list : ℕ → List (List ℕ) → Bool
 is_list count groups = list_all is_group groups && list_all (λ x. nat_lt x count) (concat groups) && is_distinct (concat groups)
 
--- Lists within the limits, whose names are names and differ on each side, and whose groups name the other side.
+-- Lists within the limits, whose names are names and differ on each side, and whose groups have numbers of the other side,
+-- none empty and no number twice in a list.
 pub record IsWellFormed (lists : Lists) : Type 0 where
   pub few_residents : length lists.residents ≤ most_residents
   pub few_hospitals : length lists.hospitals ≤ most_hospitals

@@ -1,6 +1,6 @@
 // How many terms the rows of the 0/1 model have, counted without making the rows. Each pair stands in the row of its
-// resident, in that of its hospital and in its own. Its own row also has the pairs of its resident that are ranked at least
-// as high, where its hospital has a post, and those of its hospital.
+// resident, in that of its hospital and in its own. Where its hospital has a post its own row also has the other pairs of its
+// resident and of its hospital that are ranked at least as high.
 ghost use Rattle.std.specs.Prelude.{◌≡◌, ◌+◌, ◌*◌, ◌<◌, ◌≤◌, ◌++◌, [], ◌∷◌, ℕ, List, length, sum_by, All, slice_index_or};
 ghost use Rattle.rank_tables.specs.Numbers.{below};
 ghost use Rattle.rank_tables.specs.Instance.{lists_of};
@@ -22,15 +22,15 @@ pub enum Side {
     Hospital,
 }
 
-/// The rank of a pair in a row, and whether its own row has the other pairs that are ranked as high.
+/// The rank of a pair in a row, and whether its own row has the other pairs that are ranked at least as high.
 #[derive(Clone, Copy, Debug)]
 pub struct Ranked {
     pub rank: u32,
     pub counts: bool,
 }
 
-/// The pairs of a row up to one of them, best first: how many they are, the rank of the last, how many of that rank count,
-/// and how many other pairs are ranked at least as high as one that counts.
+/// The pairs of a row up to one of them, best first: how many they are, the rank of the last, how many of that rank count, and
+/// summed over those that count: how many other pairs are ranked at least as high.
 #[derive(Clone, Copy, Debug)]
 pub struct Run {
     pub listed: u64,
@@ -59,7 +59,7 @@ pub fn terms_of(draft: &Draft, tables: &Tables) -> u64
     3 * tables.entries.len() as u64 + of_residents + of_hospitals
 }
 
-// How many other pairs of their row are ranked at least as high as one that counts, in all rows.
+// Summed over the pairs that count, in all rows: how many other pairs of their row are ranked at least as high.
 fn terms_of_rows(
     side: Side,
     hospitals: &[DraftHospital],
@@ -82,7 +82,8 @@ fn terms_of_rows(
     terms
 }
 
-// How many other pairs of a row are ranked at least as high as one that counts. The row stands in the order of its list.
+// Summed over the pairs of a row that count: how many others are ranked at least as high. The row stands in the order of its
+// list.
 fn terms_of_row(
     side: Side,
     hospitals: &[DraftHospital],
@@ -108,7 +109,7 @@ fn terms_of_row(
     run.terms
 }
 
-// How a side ranks a pair. Where a hospital has no post, no row has the other pairs of the resident.
+// How a side ranks a pair. Where its hospital has no post, its own row has no other pair.
 fn ranking(side: Side, hospitals: &[DraftHospital], entry: &PairEntry) -> Ranked
     requires { entry.now.hospital < length hospitals.now }
     ensures { result ≡ ranked_of side hospitals.now entry.now }
@@ -120,7 +121,7 @@ fn ranking(side: Side, hospitals: &[DraftHospital], entry: &PairEntry) -> Ranked
         },
         Side::Hospital => Ranked {
             rank: entry.hospital_rank,
-            counts: true,
+            counts: hospitals[entry.hospital as usize].capacity > 0,
         },
     }
 }

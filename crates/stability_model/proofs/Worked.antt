@@ -88,6 +88,18 @@ bare = record {
 pub bare-rows : written_rows bare ≡ at_most 1 (1 ∷ []) ∷ at_most 0 (1 ∷ []) ∷ record { terms = term (pos 1) 1 ∷ []; at_least = pos 0 } ∷ []
 bare-rows = refl
 
+-- resident a: x / resident b: x / hospital x 0: a b
+abbrev pub crowded : Lists
+crowded = record {
+  residents = record { name = 97 ∷ []; groups = (0 ∷ []) ∷ [] } ∷ record { name = 98 ∷ []; groups = (0 ∷ []) ∷ [] } ∷ [];
+  hospitals = record { name = 120 ∷ []; capacity = 0; groups = (0 ∷ []) ∷ (1 ∷ []) ∷ [] } ∷ [];
+}
+
+-- nor has the row of a pair the other pairs of a hospital without posts
+pub crowded-rows : written_rows crowded
+    ≡ at_most 1 (1 ∷ []) ∷ at_most 1 (2 ∷ []) ∷ at_most 0 (1 ∷ 2 ∷ []) ∷ record { terms = term (pos 1) 1 ∷ []; at_least = pos 0 } ∷ record { terms = term (pos 1) 2 ∷ []; at_least = pos 0 } ∷ []
+crowded-rows = refl
+
 pub bare-resident : resident_row_no bare 1 ≡ None
 bare-resident = refl
 

@@ -39,7 +39,7 @@ IsClosed lists gone = (p : ℕ) → IsPairNo lists p → IsTrue (rule_a lists go
 abbrev pub Gone : Lists → ℕ → Type 0
 Gone lists p = IsPairNo lists p × ((gone : Pairs) → IsClosed lists gone → IsTrue (gone p))
 
--- the set holds exactly the pairs that are gone
+-- of the numbers of pairs the set holds exactly those of the pairs that are gone
 pub record AreGone (lists : Lists) (gone : Pairs) : Type 0 where
   pub each : (p : ℕ) → IsPairNo lists p → IsTrue (gone p) → Gone lists p
   pub all : (p : ℕ) → Gone lists p → IsTrue (gone p)
@@ -52,6 +52,6 @@ residents_left lists gone = count_by (λ r. list_any (λ p. not (gone p)) (pairs
 abbrev pub posts_left : Lists → Pairs → ℕ
 posts_left lists gone = sum_by (λ h. min (capacity_of lists h) (count_by (λ p. not (gone p)) (pairs_of_hospital lists h))) (below (length lists.hospitals))
 
--- No matching of pairs that are left has more than the smaller of the two.
+-- the smaller of the two; no matching of pairs that are left has more pairs
 abbrev pub ceiling : Lists → Pairs → ℕ
 ceiling lists gone = min (residents_left lists gone) (posts_left lists gone)

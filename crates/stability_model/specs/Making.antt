@@ -1,11 +1,12 @@
 -- What the steps of making a model leave.
-use Rattle.std.specs.Prelude.{◌≡◌, ◌≤◌, ℕ, ◌+◌, ◌==◌, nat_le, if◌then◌else◌, List, [], ◌∷◌, length, map, get_or, Option, Some, None, pos}
+use Rattle.std.specs.Prelude.{◌≡◌, ◌≤◌, ℕ, ◌+◌, ◌==◌, nat_le, ◌&&◌, if◌then◌else◌, List, [], ◌∷◌, length, map, get_or, Option, Some, None, pos}
 use Rattle.hrt_base.specs.declared.literal.Term.{Term}
 use Rattle.std.specs.declared.vec.Vec.{Vec}
 use Rattle.pb_rows.specs.Terms.{PlainRow}
 use Rattle.pb_rows.specs.Rows.{in_normal_form}
 use Rattle.rank_tables.specs.Numbers.{below}
 use Rattle.rank_tables.specs.Instance.{Lists, capacity_of, pair_at, rank_by_hospital, rank_by_resident}
+use Rattle.rank_tables.specs.Terms.{has_post}
 use Rattle.stability_model.specs.Model.{at_most, has_any, hospital_row_no, hospital_rows, resident_row_no, resident_rows, rows, term}
 
 -- the items of each of some lists that grow
@@ -34,7 +35,7 @@ resident_share lists p q =
 abbrev pub hospital_share : Lists → ℕ → ℕ → ℕ
 hospital_share lists p q =
     if (pair_at lists q).resident == (pair_at lists p).resident then 0
-    else (if nat_le (rank_by_hospital lists q) (rank_by_hospital lists p) then 1 else 0)
+    else (if has_post lists p && nat_le (rank_by_hospital lists q) (rank_by_hospital lists p) then 1 else 0)
 
 -- a term for each of these pairs, with the coefficient that f gives it
 abbrev pub counted_terms : (ℕ → ℕ) → List ℕ → List Term

@@ -7,7 +7,8 @@ use Rattle.pb_rows.specs.Points.{Point, value_at}
 use Rattle.pb_rows.specs.Rows.{holds, in_normal_form}
 use Rattle.pb_rows.specs.Formula.{Formula}
 use Rattle.rank_tables.specs.Numbers.{below, numbers_to, is_in}
-use Rattle.rank_tables.specs.Instance.{Lists, capacity_of, pair_at, pair_count, pairs_of_hospital, pairs_of_resident, rank_by_hospital, rank_by_resident}
+use Rattle.rank_tables.specs.Instance.{Lists, capacity_of, pair_at, pair_count, pairs_of_hospital, pairs_of_resident}
+use Rattle.rank_tables.specs.Terms.{has_post, is_as_good_for_hospital, is_as_good_for_resident}
 use Rattle.rank_tables.specs.Stability.{blocks, is_matching, is_weakly_stable}
 
 -- a coefficient on the variable of a pair
@@ -51,24 +52,16 @@ hospital_rows lists = map (hospital_row lists) (filter (hospital_has_pair lists)
 
 -- ---- the rows of pairs
 
--- whether q is a pair of the resident of p, which ranks it at least as high as p
-abbrev pub is_as_good_for_resident : Lists → ℕ → ℕ → Bool
-is_as_good_for_resident lists p q = (pair_at lists q).resident == (pair_at lists p).resident && nat_le (rank_by_resident lists q) (rank_by_resident lists p)
-
--- whether q is a pair of the hospital of p, which ranks it at least as high as p
-abbrev pub is_as_good_for_hospital : Lists → ℕ → ℕ → Bool
-is_as_good_for_hospital lists p q = (pair_at lists q).hospital == (pair_at lists p).hospital && nat_le (rank_by_hospital lists q) (rank_by_hospital lists p)
-
--- the coefficient of pair q in the row of pair p, whose hospital has c posts: c + 1 for p itself, c for another that its
--- resident ranks at least as high, 1 for another that its hospital ranks at least as high, else 0
+-- the coefficient of pair q in the row of pair p, whose hospital has c posts: c + 1 for p itself; where c isn't 0, c for another
+-- that its resident ranks at least as high and 1 for another that its hospital ranks at least as high; else 0
 abbrev pub stability_coef : Lists → ℕ → ℕ → ℕ
 stability_coef lists p q =
     if q == p then capacity_of lists (pair_at lists p).hospital + 1
     else if is_as_good_for_resident lists p q then capacity_of lists (pair_at lists p).hospital
-    else if is_as_good_for_hospital lists p q then 1
+    else if has_post lists p && is_as_good_for_hospital lists p q then 1
     else 0
 
--- terms with coefficient 0 are left out
+-- the row of pair p, whose hospital has c posts: with these coefficients the sum is at least c; terms with coefficient 0 are left out
 abbrev pub pair_row : Lists → ℕ → Written
 pair_row lists p = record {
   terms = map (λ q. term (pos (stability_coef lists p q)) q) (filter (λ q. nat_lt 0 (stability_coef lists p q)) (numbers_to (pair_count lists)));
@@ -85,11 +78,11 @@ written_rows lists = resident_rows lists ++ hospital_rows lists ++ map (pair_row
 abbrev pub term_count : Written → ℕ
 term_count row = length row.terms
 
--- row number k, from 1 on, stands at place k - 1
+-- the model's rows in normal form: row number k, from 1 on, stands at place k - 1
 abbrev pub rows : Lists → List PlainRow
 rows lists = map in_normal_form (written_rows lists)
 
--- to be made as small as it can be
+-- the objective, -1 for each pair, to be made as small as it can be
 abbrev pub objective : Lists → List Term
 objective lists = map (λ p. term (neg_ℤ (pos 1)) p) (numbers_to (pair_count lists))
 

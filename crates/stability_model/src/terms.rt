@@ -74,6 +74,7 @@ fn hospital_share(inst: &Instance, p: PairNo, q: PairNo) -> u32
     ensures { result ≡ hospital_share inst.now p.0 q.0 }
 {
     if inst.resident_of(q) != inst.resident_of(p)
+        && inst.capacity(inst.hospital_of(p)) > 0
         && inst.rank_by_hospital(q) <= inst.rank_by_hospital(p)
     {
         1

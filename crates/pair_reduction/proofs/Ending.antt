@@ -89,6 +89,7 @@ module _ (lists : Lists) (start unit new : Derived) (pairs : ℕ) (after : Delet
   pub ends_holds : HoldsUnits start new after
   ends_holds = record {
     ids = reduces.ids;
+    later = λ n i. let place = reduces.later n i in (place.0, omega (arith, place.1, forgets.next));
     held = held_left;
     notes = subst (λ (ns : List Note). AddsNotes ns start new) (append-nil (unit_notes reduces.ids)) (adds_further (unit_notes reduces.ids) [] start unit new reduces.notes forgets.notes);
     only = λ n live out. let left = forgets.only n live in reduces.only n left.0 out left.1;

@@ -37,10 +37,11 @@ pub record GoesOn (old new : Derived) : Type 0 where
   pub least : new.state.least ≡ old.state.least
   pub valid : StaysValid old new
 
--- The rows of the deleted pairs, one for each, are held from here on, and no other row. A unit note of each was added, and no
--- other note. They are live, and no other row is that wasn't live before.
+-- The rows of the deleted pairs, one for each and each of them new, are held from here on, and no other row. A unit note of each
+-- was added, and no other note. They are live, and no other row is that wasn't live before.
 pub record HoldsUnits (old new : Derived) (deletions : Deletions) : Type 0 where
   pub ids : List ℕ
+  pub later : (n : ℕ) → is_in n ids ≡ true → (old.state.next ≤ n) × (n + 1 ≤ new.state.next)
   pub held : new.held ≡ keeping ids old.held
   pub notes : AddsNotes (unit_notes ids) old new
   pub only : LeavesOnly ids old new
@@ -71,7 +72,8 @@ pub record AreMade (old new : Derived) (ids : List RowNo) : Type 0 where
   pub distinct : is_distinct (row_numbers ids) ≡ true
   pub each : (n : ℕ) → is_in n (row_numbers ids) ≡ true → (old.state.next ≤ n) × (n + 1 ≤ new.state.next) × (is_numbered n new.state.live ≡ true)
 
--- some pairs of the hospital of p, as many as it has posts, are offering, and the rows of their offers are live
+-- of the pairs that the hospital of p strictly prefers to p, at least as many as it has posts are offering, and the row of
+-- each pair that is offering is live
 pub record HasOffers (lists : Lists) (p : ℕ) (live : List NumberedRow) : Type 0 where
   pub offered : ℕ → Bool
   pub enough : capacity_of lists (pair_at lists p).hospital ≤ count_by (λ q. nat_lt (rank_by_hospital lists q) (rank_by_hospital lists p) && offered q) (pairs_of_hospital lists (pair_at lists p).hospital)

@@ -79,6 +79,7 @@ impl MemoryHost {
         ensures plan { memory_plan self.new ≡ memory_plan self.old }
     {
         let file = File::whole(self.alloc, name.as_bytes(), bytes)?;
+        // A place for each room, for each of the 7 ports and for this file.
         self.files.reserve(self.rooms.len() + 8)?;
         let added = add(&mut self.files, file);
         added
@@ -95,6 +96,7 @@ impl MemoryHost {
             return Ok(());
         }
         let file = File::with_room(self.alloc, name.as_bytes(), bytes)?;
+        // A place for each room, for each of the 7 ports and for this file.
         self.files.reserve(self.rooms.len() + 8)?;
         self.rooms.push(Room { port, file })?;
         Ok(())
@@ -194,6 +196,7 @@ impl Host for MemoryHost {
         ensures taken { IfOk result (λ n. Taken (Unit {0}) port (take n buffer.new) (memory_world self.old) (memory_world self.new)) }
         ensures end { Unit {0} → IfOk result (λ n. (n ≡ 0) ↔ ((memory_world self.old).content.rest port ≡ [])) }
         ensures failed { OnErr result (NotRead (Unit {0}) (memory_world self.old) (memory_world self.new)) }
+        ensures kept { OnErr result (buffer.new ≡ buffer.old) }
         ensures moves { IfOk result (λ n. n ≡ min (min (length ((memory_world self.old).content.rest port)) (length buffer.new)) (memory_plan self.old).most) }
         ensures fails { is_err result ≡ fails_next (memory_plan self.old) }
         ensures counts { (memory_world self.new).read_faults ≡ faults_after (is_err result) (memory_world self.old).read_faults }

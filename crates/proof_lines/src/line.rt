@@ -1,4 +1,6 @@
 // What a line of a proof says.
+ghost use Rattle.std.specs.Prelude.{◌≡◌};
+
 use crate::{Ids, Lits, PolSteps};
 use hrt_base::{Lit, RowNo};
 use row_text::Written;
@@ -19,8 +21,11 @@ pub enum PolStep {
     Weaken(u32),
 }
 
+// What a `SmallVec` keeps in its unused places.
 impl Default for PolStep {
-    fn default() -> PolStep {
+    fn default() -> PolStep
+        ensures { result ≡ PolStep.Add }
+    {
         PolStep::Add
     }
 }

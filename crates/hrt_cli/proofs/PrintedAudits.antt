@@ -5,9 +5,8 @@ use Rattle.hrt_base.specs.World.{World}
 use Rattle.rank_tables.specs.Instance.{Lists}
 use Rattle.rank_tables.specs.Stability.{is_weakly_stable}
 use Rattle.hrt_reader.specs.PairsText.{SpellsPairs}
-use Rattle.hrt_inputs.specs.declared.limit.Limit.TheVariants.{Pairs}
 use Rattle.hrt_inputs.specs.Rejections.{Rejection, exceeded, model_refused, pairs_refused, proof_refused, refused, truncated}
-use Rattle.hrt_inputs.specs.Taken.{lists_in, of_few_terms, pairs_in, within}
+use Rattle.hrt_inputs.specs.Taken.{pairs_in, taken_lists}
 use Rattle.hrt_inputs.proofs.ReadPairs.{pairs_spelled}
 use Rattle.hrt_inputs.proofs.ReadInstances.{taken_spelled}
 use Rattle.hrt_cli.specs.declared.status.Status.{Status}
@@ -44,7 +43,7 @@ lists_on (Ok lists) (Some bytes) verdict e = subst IsOnAudit (some_is (audit_ver
 
 on_audit : (file pairs : Option (List ℕ)) (verdict : Verdict) → on_file file pairs ≡ Some verdict → IsOnAudit verdict
 on_audit None pairs verdict e = absurd (cc)
-on_audit (Some bytes) pairs verdict e = lists_on (of_few_terms (within Pairs (lists_in bytes))) pairs verdict e
+on_audit (Some bytes) pairs verdict e = lists_on (taken_lists bytes) pairs verdict e
 
 -- ---- what a verdict on pairs says of the files
 
@@ -98,7 +97,7 @@ said_of_file : (i q : List ℕ) (lists : Lists) (pairs : List ℕ) (old new : Wo
     → IsReport (audited lists pairs) (new.content.sent Report) → PrintsAudit i q (is_weakly_stable lists pairs) old.content new.content
 said_of_file i q lists pairs old new None is e report = absurd (cc)
 said_of_file i q lists pairs old new (Some bytes) is e report =
-    let said = lists_said (of_few_terms (within Pairs (lists_in bytes))) (old.content.file q) lists pairs e in
+    let said = lists_said (taken_lists bytes) (old.content.file q) lists pairs e in
     record {
       bytes = bytes;
       file = is;

@@ -15,7 +15,7 @@ use Rattle.hrt_solve.specs.Gauged.{AreNumbersOf, bound_claim}
 use Rattle.hrt_solve.specs.Writing.{IsBoundText, IsProof, IsQuickEnd, IsQuickText}
 use Rattle.hrt_inputs.specs.declared.limit.Limit.TheVariants as limit
 use Rattle.hrt_inputs.specs.Loading.{IsLoaded}
-use Rattle.hrt_inputs.specs.Taken.{IsTaken, lists_in, of_few_terms, within}
+use Rattle.hrt_inputs.specs.Taken.{IsTaken, taken_lists}
 use Rattle.hrt_inputs.specs.Rejections.{Rejection}
 use Rattle.hrt_cli.specs.declared.answer.Answer.{Answer}
 use Rattle.hrt_cli.specs.declared.status.Status.TheVariants as status
@@ -77,7 +77,7 @@ matching i m p = record {
   has_outputs = λ files taken. taken;
 }
 
-pub refused_on : (Due : Lists → Verdict → Type 0) (files : Files) (i bytes : List ℕ) (rejection : Rejection) → files i ≡ Some bytes → of_few_terms (within limit.Pairs (lists_in bytes)) ≡ Err rejection
+pub refused_on : (Due : Lists → Verdict → Type 0) (files : Files) (i bytes : List ℕ) (rejection : Rejection) → files i ≡ Some bytes → taken_lists bytes ≡ Err rejection
     → OnInstance Due (files i) (rejected rejection)
 refused_on Due files i bytes rejection file is = (bytes, file, subst (λ (r : Result Lists Rejection). OnLists Due r (rejected rejection)) (sym is) refl)
 

@@ -8,7 +8,7 @@ use Rattle.opb_text.specs.Spelling.{model_text}
 use Rattle.hrt_inputs.specs.declared.limit.Limit.TheVariants as limit
 use Rattle.hrt_inputs.specs.Loading.{IsLoaded}
 use Rattle.hrt_inputs.specs.Rejections.{Rejection}
-use Rattle.hrt_inputs.specs.Taken.{lists_in, of_few_terms, within}
+use Rattle.hrt_inputs.specs.Taken.{taken_lists}
 use Rattle.hrt_inputs.proofs.ReadInstances.{taken_spelled}
 use Rattle.hrt_cli.specs.declared.answer.Answer.{Answer}
 use Rattle.hrt_cli.specs.declared.status.Status.{Status}
@@ -29,7 +29,7 @@ use Rattle.hrt_cli.proofs.WrittenOutputs.{Writer, nothing_left, outputs_end, out
 
 -- ---- the verdict
 
-pub model_due : (files : Files) (i m bytes : List ℕ) (r : Result Lists Rejection) → files i ≡ Some bytes → of_few_terms (within limit.Pairs (lists_in bytes)) ≡ r → ComesTo (Some (model i m)) files (due r modeled)
+pub model_due : (files : Files) (i m bytes : List ℕ) (r : Result Lists Rejection) → files i ≡ Some bytes → taken_lists bytes ≡ r → ComesTo (Some (model i m)) files (due r modeled)
 model_due files i m bytes r file is = ap (option_map model_verdict) file ∙ ap (λ (x : Result Lists Rejection). Some (due x modeled)) is
 
 abbrev pub model_writer : List ℕ → List ℕ → Writer
@@ -84,7 +84,7 @@ of_model None lists e = absurd (cc)
 of_model (Some bytes) lists e = record {
   bytes = bytes;
   is_file = refl;
-  spells = taken_spelled bytes lists (of_due (of_few_terms (within limit.Pairs (lists_in bytes))) lists (some_is (model_verdict bytes) (modeled lists) e));
+  spells = taken_spelled bytes lists (of_due (taken_lists bytes) lists (some_is (model_verdict bytes) (modeled lists) e));
 }
 
 abbrev IsOnModel : Verdict → Type 0
@@ -104,7 +104,7 @@ due_on_model (Ok lists) verdict e = subst IsOnModel e tt
 
 on_model : (file : Option (List ℕ)) (verdict : Verdict) → option_map model_verdict file ≡ Some verdict → IsOnModel verdict
 on_model None verdict e = absurd (cc)
-on_model (Some bytes) verdict e = due_on_model (of_few_terms (within limit.Pairs (lists_in bytes))) verdict (some_is (model_verdict bytes) verdict e)
+on_model (Some bytes) verdict e = due_on_model (taken_lists bytes) verdict (some_is (model_verdict bytes) verdict e)
 
 writes : (i m : List ℕ) (old new : World) (verdict : Verdict) → is_file_name m ≡ true → ComesTo (Some (model i m)) old.content.file verdict → code_of (status_of verdict) ≡ 0
     → IsReport verdict (new.content.sent Report) → SendsAll (outputs_of (Some (model i m)) verdict) old.content new.content → WritesModel i m old.content new.content

@@ -8,10 +8,10 @@ use Rattle.proof_rules.specs.Texts.{HasVerdict}
 use Rattle.promotion_heuristic.specs.Promotion.{promotion}
 use Rattle.hrt_solve.specs.Gauged.{AreNumbersOf, bound_claim, found_claim}
 use Rattle.hrt_solve.specs.Writing.{IsProof}
-use Rattle.hrt_inputs.specs.declared.limit.Limit.TheVariants.{Pairs, TriedPairs, ProofBytes}
+use Rattle.hrt_inputs.specs.declared.limit.Limit.TheVariants.{TriedPairs, ProofBytes}
 use Rattle.hrt_inputs.specs.Limits.{most}
 use Rattle.hrt_inputs.specs.Rejections.{Rejection, exceeded, proof_refused, truncated}
-use Rattle.hrt_inputs.specs.Taken.{formula_in, formula_of_instance, lists_in, of_few_terms, pairs_in, within}
+use Rattle.hrt_inputs.specs.Taken.{formula_in, formula_of_instance, lists_in, pairs_in, taken_lists, within}
 use Rattle.hrt_cli.specs.Requests.{Request, solve, audit, model, verify, check, bound, quick}
 
 -- what a run comes to: the words ask for nothing, a file isn't taken, or this is due
@@ -56,11 +56,11 @@ on_lists (Ok lists) pairs = option_map (audit_verdict lists) pairs
 -- what a file with an instance and a file with pairs come to: nothing where one that is read is absent
 abbrev pub on_file : Option (List ℕ) → Option (List ℕ) → Option Verdict
 on_file None pairs = None
-on_file (Some bytes) pairs = on_lists (of_few_terms (within Pairs (lists_in bytes))) pairs
+on_file (Some bytes) pairs = on_lists (taken_lists bytes) pairs
 
 -- what an instance of these bytes comes to where its model is asked for
 abbrev pub model_verdict : List ℕ → Verdict
-model_verdict bytes = due (of_few_terms (within Pairs (lists_in bytes))) modeled
+model_verdict bytes = due (taken_lists bytes) modeled
 
 -- ---- proofs
 
@@ -99,7 +99,7 @@ OnLists Due (Ok lists) verdict = Due lists verdict
 
 -- what a file with an instance comes to
 abbrev pub OnInstance : (Lists → Verdict → Type 0) → Option (List ℕ) → Verdict → Type 0
-OnInstance Due input verdict = (bytes : List ℕ) × (input ≡ Some bytes) × OnLists Due (of_few_terms (within Pairs (lists_in bytes))) verdict
+OnInstance Due input verdict = (bytes : List ℕ) × (input ≡ Some bytes) × OnLists Due (taken_lists bytes) verdict
 
 -- what is due are the instance's numbers and a proof of what is claimed with its ceiling, which says of no row that it was learned
 pub record ProofDue (claim : ℕ → Claim) (done : ℕ → ℕ → List ℕ → Verdict) (lists : Lists) (verdict : Verdict) : Type 0 where
@@ -110,7 +110,7 @@ pub record ProofDue (claim : ℕ → Claim) (done : ℕ → ℕ → List ℕ →
   pub is_proof : IsProof lists text (claim top) 0
   pub is : verdict ≡ done deleted top text
 
--- that no weakly stable matching is larger than the ceiling
+-- the instance's numbers are due, and a proof that no weakly stable matching is larger than the ceiling
 abbrev pub BoundDue : Lists → Verdict → Type 0
 BoundDue lists verdict = ProofDue bound_claim (bounded lists) lists verdict
 

@@ -8,7 +8,7 @@ use Rattle.hrt_inputs.specs.declared.limit.Limit.TheVariants.{Residents, Hospita
 use Rattle.hrt_inputs.specs.declared.limit.Limit.{Limit}
 use Rattle.hrt_inputs.specs.Limits.{most}
 use Rattle.hrt_inputs.specs.Rejections.{Rejection, refused, exceeded}
-use Rattle.hrt_inputs.specs.Taken.{lists_in, of_few_terms, unless_refused, within}
+use Rattle.hrt_inputs.specs.Taken.{lists_in, of_few_terms, taken_lists, unless_refused, within}
 
 abbrev taken_as : Lists → Result Lists Rejection
 taken_as lists = Ok lists
@@ -55,5 +55,5 @@ of_terms (Ok found) lists e = by (nat_lt (most Terms) (model_terms found)) e
     by false h = h
 
 -- lists of few pairs and few terms, too
-pub taken_spelled : (bytes : List ℕ) (lists : Lists) → of_few_terms (within Pairs (lists_in bytes)) ≡ Ok lists → Spells bytes lists
+pub taken_spelled : (bytes : List ℕ) (lists : Lists) → taken_lists bytes ≡ Ok lists → Spells bytes lists
 taken_spelled bytes lists e = spelled bytes lists (of_within Pairs (lists_in bytes) lists (of_terms (within Pairs (lists_in bytes)) lists e))

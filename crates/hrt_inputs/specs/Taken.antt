@@ -78,7 +78,7 @@ model_of (Ok lists) = Ok (formula lists)
 
 -- the formula of the model of the instance that the bytes spell
 abbrev pub formula_of_instance : List ℕ → Result Formula Rejection
-formula_of_instance bytes = model_of (of_few_terms (within Pairs (lists_in bytes)))
+formula_of_instance bytes = model_of (taken_lists bytes)
 
 -- the formula, unless it is refused. Want of memory is no text's refusal.
 abbrev pub unless_model_refused : Option OpbRefusal → Formula → Result Formula Rejection

@@ -5,7 +5,7 @@ use Rattle.rank_tables.specs.Instance.{Lists}
 use Rattle.rank_tables.specs.Stability.{is_matching}
 use Rattle.stability_model.specs.Gone.{AreGone, Pairs, ceiling}
 
--- no matching has more than n pairs, if none of them is in the set
+-- no matching all of whose pairs are outside the set has more than n pairs
 pub record BoundsMatchings (lists : Lists) (gone : Pairs) (n : ℕ) : Type 0 where
   pub each : (m : List ℕ) → IsTrue (is_matching lists m) → ((p : ℕ) → IsTrue (is_in p m) → IsFalse (gone p)) → length m ≤ n
 

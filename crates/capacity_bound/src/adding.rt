@@ -6,7 +6,7 @@ use hrt_base::NoMemory;
 use proof_lines::PolStep;
 use std::alloc::Global;
 
-// Puts steps behind others that add the rows that the operands name: those of either half, and the two sums. Most sums are
+// Appends the steps that add up the rows that the operands name: each half for itself, and then the two sums. Most sums are
 // short then, and the time of all grows little faster than the terms.
 fn push_sum(steps: &mut Vec<PolStep>, operands: &[PolStep]) -> Result<(), NoMemory>
     requires { 0 < length operands.now }

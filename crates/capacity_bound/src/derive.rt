@@ -16,7 +16,7 @@ use stability_model::Model;
 use std::alloc::Global;
 
 /// Makes the bound row, that the objective is at least minus the ceiling, by one line, and notes it. `None` says that there
-/// is no pair. After a refusal the line may stand without its note.
+/// is no pair. After want of memory the line may stand without its note.
 pub fn derive_bound(
     alloc: Global,
     inst: &Instance,

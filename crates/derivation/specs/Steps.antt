@@ -31,7 +31,7 @@ pub record IsWritable (line : Line) : Type 0 where
   pub small : IsTrue (is_small_line line)
   pub short : length (line_text line) ≤ most_bytes
 
--- steps make a row, or one of them makes a row that is too big
+-- steps make a row, or are refused as too big
 abbrev pub IsRowOrTooBig : Result PlainRow Refusal → Type 0
 IsRowOrTooBig (Ok row) = Unit {0}
 IsRowOrTooBig (Err TooBig) = Unit {0}

@@ -194,7 +194,7 @@ impl<'a> Derivation<'a> {
         }
     }
 
-    /// Makes a row that the live rows imply by propagation. It searches for nothing.
+    /// Makes a row that the live rows imply by propagation. That they do is asked of the caller and not checked.
     pub fn rup(&mut self, alloc: Global, model: &Model, row: Row) -> Result<RowNo, NoMemory>
         requires same { model.now ≡ self.old.lists }
         requires open { self.old.claim ≡ None }
@@ -254,7 +254,7 @@ impl<'a> Derivation<'a> {
         Ok(())
     }
 
-    /// Rows are live no more.
+    /// Deletes rows: they are live no more.
     pub fn forget(&mut self, alloc: Global, ids: &[RowNo]) -> Result<(), NoMemory>
         requires open { self.old.claim ≡ None }
         requires writable { IsWritable (Line.Del ids.now) }
@@ -273,7 +273,7 @@ impl<'a> Derivation<'a> {
         Ok(())
     }
 
-    /// Ends the proof with a claim. After it there are only `pending` and `send`.
+    /// Ends the proof with a claim. After it no call adds a line.
     pub fn conclude(&mut self, alloc: Global, model: &Model, claim: Claim) -> Result<(), NoMemory>
         requires same { model.now ≡ self.old.lists }
         requires open { self.old.claim ≡ None }

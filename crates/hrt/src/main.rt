@@ -20,6 +20,7 @@ fn main(rt: HostRuntime) -> ExitCode {
     let alloc = rt.alloc();
     let words = match words(&rt) {
         Ok(words) => words,
+        // The code with which `run` tells of want of memory.
         Err(error) if error.kind() == ErrorKind::OutOfMemory => return ExitCode::from(6),
         // A word that isn't UTF-8 makes a command line that is not understood, as no words do.
         Err(_) => Vec::new(alloc),

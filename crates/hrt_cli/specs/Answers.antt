@@ -61,7 +61,8 @@ Explains (ProofRefused refusal) answer = TellsRefusal refusal answer
 Explains ReadFault answer = ⊥
 Explains NoMemory answer = ⊥
 
--- a stop that isn't explained ends the run
+-- a run can end so for this stop: by a read fault only where that was the stop, for want of memory after any, and never by a
+-- write fault
 abbrev pub EndsFor : Stop → Ended → Type 0
 EndsFor stop ended.ReadFault = stop ≡ ReadFault
 EndsFor stop ended.WriteFault = ⊥

@@ -83,7 +83,7 @@ end_lines lists end =
 abbrev pub match_lines : Lists → ℕ → ℕ → List ℕ → List ℕ
 match_lines lists deleted top m = bound_lines lists deleted top ++ found_lines lists m
 
--- whether no other matching is larger, or how large one is at most
+-- `best` where the matching is as large as the ceiling, else the ceiling as the most pairs that a weakly stable matching has
 abbrev pub last_line : ℕ → ℕ → List ℕ
 last_line size top = if size == top then line (codes "best") else count_line (codes "at most") top
 
@@ -174,7 +174,7 @@ abbrev pub sizes_report : Option ℤ → Option ℤ → List ℕ
 sizes_report bound found =
     line (codes "accepted") ++ value_line (codes "bound") (number_or (codes "none") bound) ++ value_line (codes "found") (number_or (codes "none") found)
 
--- the objective is minus the number of pairs
+-- the report on what a valid proof claims of an instance's weakly stable matchings; the objective is minus the number of pairs
 abbrev pub verify_report : Claim → List ℕ
 verify_report (Bounds lower upper) = sizes_report (option_map neg_ℤ lower) (option_map neg_ℤ upper)
 verify_report Unsat = line (codes "accepted") ++ line (codes "unsatisfiable")

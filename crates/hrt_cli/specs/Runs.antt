@@ -152,8 +152,8 @@ pub record WritesModel (instance name : List ℕ) (old new : Content) : Type 0 w
   pub written : new.file name ≡ Some (model_text lists)
   pub report : new.sent Report ≡ model_report lists
 
--- The report says of the instance that the file spells how many pairs a weakly stable matching has at most, and how many one
--- of them has at least, or says neither. Both are so, whoever wrote the proof.
+-- The report says of the instance that the file spells at most how many pairs a weakly stable matching has, and at least how
+-- many one of them has, or `none` for either. What it says is so, whoever wrote the proof.
 pub record PrintsSizes (instance : List ℕ) (old new : Content) : Type 0 where
   pub bytes : List ℕ
   pub file : old.file instance ≡ Some bytes

@@ -86,6 +86,6 @@ pub record SavesFronts (told : Type 0) (Is : List ℕ → Type 0) (lists : Lists
   pub is : Is text
   pub fronts : WritesFronts told (both name proof lists text) old new
 
--- nothing was written, or fronts
+-- nothing was written, or fronts of the model and of such a text
 abbrev pub SavesInPart : (told : Type 0) → (List ℕ → Type 0) → Lists → List ℕ → List ℕ → World → World → Type 0
 SavesInPart told Is lists name proof old new = WritesNothing told old new ⊎ SavesFronts told Is lists name proof old new

@@ -75,7 +75,7 @@ fn push_found(report: &mut Report, inst: &Instance, end: &SolveEnd) -> Result<()
     report.push_count("size", end.first)
 }
 
-// Adds the line that says whether no other matching is larger, or how large one is at most.
+// Adds the line that says that no other matching is larger, or how large one is at most.
 fn push_last(report: &mut Report, end: &SolveEnd) -> Result<(), NoMemory>
     ensures { OnOk result (report.new ≡ report.old ++ (if end.now.best then line (codes "best") else count_line (codes "at most") end.now.ceiling)) }
 {

@@ -9,6 +9,7 @@ use itoa::Buffer;
 use proof_checker::ProofRefusal;
 use std::alloc::Global;
 
+/// The report on a refused model.
 pub fn model_refusal_report(alloc: Global, kind: ModelKind, line: u32) -> Result<Report, NoMemory>
     ensures { IfOk result (λ report. report ≡ codes "model refused line " ++ place_line line (model_kind_word kind)) }
 {

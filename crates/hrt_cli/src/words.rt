@@ -58,7 +58,7 @@ pub fn command_of<'a>(words: &'a [String]) -> Option<Command<'a>>
     }
 }
 
-// A name of a file is not empty and doesn't begin with a sign of options.
+// A file's name is not empty and doesn't begin with `-`.
 fn is_file_name(word: &str) -> bool
     ensures { result ≡ is_file_name word.now }
 {

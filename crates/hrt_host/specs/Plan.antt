@@ -10,7 +10,7 @@ pub record RoomFor : Type 0 where
   pub name : List ℕ
   pub bytes : ℕ
 
--- the calls so far, those that fail, and the room that is given and left
+-- the calls so far, those that fail, how much a call moves, and the room that is given and left
 pub record Plan : Type 0 where
   -- how many calls there were
   pub calls : ℕ
@@ -23,7 +23,7 @@ pub record Plan : Type 0 where
   -- the room that is left to a port that is begun for writing
   pub left : Port → ℕ
 
--- a count that stays at the greatest u64
+-- one more than a count, which stays at the greatest u64
 abbrev pub one_more : ℕ → ℕ
 one_more n = min (n + 1) (2 ^ 64 - 1)
 

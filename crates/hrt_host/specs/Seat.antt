@@ -26,7 +26,7 @@ abbrev pub or_else : Option (List ℕ) → Option (List ℕ) → Option (List �
 or_else (Some x) o = Some x
 or_else None o = o
 
--- what a file answers to a name
+-- the bytes of a file where this is its name and isn't empty, else none
 abbrev pub answer : File → List ℕ → Option (List ℕ)
 answer f n = if length f.name.items == 0 then None else if bytes_eq n f.name.items then Some f.bytes.items else None
 
@@ -93,7 +93,7 @@ writes_here sealed_at at_rest = true
 writes_here sealed_at (reads file taken) = true
 writes_here sealed_at writes = is_none sealed_at
 
--- whether a seat names only files below n, and is written at its own file
+-- whether a seat names only files below n and, where it is written, is written at its own file
 abbrev pub seat_below : ℕ → Seat → Bool
 seat_below n s = named_below n s.sealed_at && (reads_below n s.stand && writes_here s.sealed_at s.stand)
 

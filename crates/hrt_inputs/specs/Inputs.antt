@@ -8,7 +8,7 @@ use Rattle.hrt_base.specs.World.{World, Content, put, with_rest}
 abbrev pub but_for_rest : Content → Content → Content
 but_for_rest old new = record { name = old.name; rest = new.rest; sent = old.sent; file = old.file }
 
--- Nothing but reading was done. Whatever port is begun for writing was so before.
+-- Nothing but reading was done. The ports that are begun for writing are those that were.
 pub record OnlyRead (told : Type 0) (old new : World) : Type 0 where
   pub later : old.read_faults ≤ new.read_faults
   pub write_faults : new.write_faults ≡ old.write_faults
@@ -22,7 +22,7 @@ pub record WasRead (told : Type 0) (port : Port) (name bytes : List ℕ) (old ne
   pub file : told → old.content.file name ≡ Some bytes
   pub content : told → new.content ≡ with_rest port [] old.content
 
--- a file has more bytes than the limit, and was left unread behind it
+-- a file has more bytes than the limit; how far it was read isn't told
 pub record IsTooLong (told : Type 0) (port : Port) (name : List ℕ) (limit : ℕ) (old new : World) : Type 0 where
   pub only_read : OnlyRead told old new
   pub begun : new.begun ≡ put port Reading old.begun

@@ -1,4 +1,4 @@
-// Instances from files.
+// Instances and pairs from files.
 ghost use Rattle.std.specs.Prelude.{◌≡◌, ◌≤◌, ◌<◌, length, All, IfOk, IfErr, IsTrue, Ok, Err};
 ghost use Rattle.rank_tables.specs.Instance.{Lists, pair_count};
 ghost use Rattle.rank_tables.specs.Numbers.{is_distinct};

@@ -98,7 +98,7 @@ bad_name (hospital name capacity items) = not (is_name name && list_all is_name 
 bad_name finish = false
 bad_name other = false
 
--- 4: the capacity is none
+-- 4: the word in the capacity's place is no capacity
 abbrev pub bad_capacity : Form → Bool
 bad_capacity (hospital name capacity items) = not (is_capacity capacity)
 bad_capacity (resident name items) = false
@@ -133,14 +133,14 @@ bad_tie (hospital name capacity items) = is_none (groups_of items)
 bad_tie finish = false
 bad_tie other = false
 
--- 11: the lines before declare as many residents as there may be
+-- 11: it declares a resident, and the lines before declare as many as there may be
 abbrev pub too_many_residents : List Row → Form → Bool
 too_many_residents before (resident name items) = length (residents_of before) == most_residents
 too_many_residents before (hospital name capacity items) = false
 too_many_residents before finish = false
 too_many_residents before other = false
 
--- 12: the lines before declare as many hospitals as there may be
+-- 12: it declares a hospital, and the lines before declare as many as there may be
 abbrev pub too_many_hospitals : List Row → Form → Bool
 too_many_hospitals before (hospital name capacity items) = length (hospitals_of before) == most_hospitals
 too_many_hospitals before (resident name items) = false

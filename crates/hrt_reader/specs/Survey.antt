@@ -16,7 +16,7 @@ IsRefusedBy refusal (Limit Pairs) = ⊥
 IsRefusedBy refusal (Limit Terms) = ⊥
 IsRefusedBy refusal NoMemory = Unit {0}
 
--- a line of this form has no kind that is its own alone, but for a name twice
+-- none of the kinds 3, 4 and 8 stands in a line of this form
 pub record IsFine (form : Form) : Type 0 where
   pub names : bad_name form ≡ false
   pub posts : bad_capacity form ≡ false

@@ -75,7 +75,7 @@ fn add_hospital(
     }
 }
 
-/// Adds what the line declares; whether its list names nothing unknown.
+/// Adds what the line declares, and tells whether its list names nothing unknown.
 pub fn add_line(
     alloc: Global,
     names: &Names,

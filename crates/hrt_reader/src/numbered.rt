@@ -40,7 +40,7 @@ fn add_number(groups: &mut Groups, place: Place, number: u32) -> Result<(), NoMe
     }
 }
 
-// Takes one token of items that are groups; whether it is a known name or no name.
+// Takes one token of items that are groups, and tells whether it is a known name or no name.
 fn take_token(
     names: &IndexSet<&[u8]>,
     groups: &mut Groups,

@@ -9,7 +9,8 @@ use hrt_base::NoMemory;
 use std::alloc::AllocError;
 use thiserror::Error;
 
-/// What is wrong in a line of an instance's text. Of several kinds in one line the one that is listed first here counts.
+/// What is wrong in a line of an instance's text. Of several kinds in one line the one that is listed first here counts, but
+/// `UnknownName` only where no other kind and no limit stands in the whole text.
 #[derive(Clone, Copy, Debug, PartialEq, Eq)]
 pub enum ReadKind {
     BadHeader,
@@ -24,7 +25,7 @@ pub enum ReadKind {
     AfterEnd,
 }
 
-/// Of what there is too much.
+/// What there is too much of.
 #[derive(Clone, Copy, Debug, PartialEq, Eq)]
 pub enum LimitKind {
     Residents,

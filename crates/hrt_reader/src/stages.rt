@@ -28,7 +28,7 @@ pub enum Step {
     Refused(Flaw),
 }
 
-// A limit gives way to the missing end of a text, whose number is less.
+// In the last line `AfterEnd` and the limits give way to the missing end of the text, whose number is less.
 fn before_end(flaw: Flaw, is_last: bool) -> Flaw
     ensures { flaw_number result ≡ (if nat_lt 9 (flaw_number flaw) && is_last then 9 else flaw_number flaw) }
 {

@@ -20,7 +20,7 @@ pub record AreNumbersOf (lists : Lists) (deleted top : ℕ) : Type 0 where
   pub deleted_is : deleted ≡ count_by gone (numbers_to (pair_count lists))
   pub ceiling_is : IsCeiling lists top
 
--- no weakly stable matching has more pairs
+-- no weakly stable matching has more than n pairs
 abbrev pub IsMost : Lists → ℕ → Type 0
 IsMost lists n = (m : List ℕ) → IsTrue (is_weakly_stable lists m) → length m ≤ n
 
@@ -30,17 +30,17 @@ IsMost lists n = (m : List ℕ) → IsTrue (is_weakly_stable lists m) → length
 abbrev pub value_of : ℕ → ℤ
 value_of n = neg_ℤ (pos n)
 
--- no matching has more pairs
+-- the claim that no weakly stable matching has more than n pairs
 abbrev pub bound_claim : ℕ → Claim
 bound_claim n = Bounds (Some (value_of n)) None
 
--- and one has so many
+-- the claim that no weakly stable matching has more than n pairs, and that one has at least `size`
 abbrev pub found_claim : ℕ → ℕ → Claim
 found_claim n size = Bounds (Some (value_of n)) (Some (value_of size))
 
 -- ---- derivations
 
--- the row that no matching has more than so many pairs is live, but where there is no pair
+-- the row of this number is live and says that the objective is at least -n; without a number the instance has no pair
 abbrev pub HasBoundRow : Lists → ℕ → Option RowNo → Derived → Type 0
 HasBoundRow lists n None d = pair_count lists ≡ 0
 HasBoundRow lists n (Some id) d = row_of id.0 d.state.live ≡ Some (at_least_row (formula lists) (value_of n))

@@ -35,7 +35,7 @@ check_end end.Failed = Failed
 check_end end.TooLong = TooLong
 check_end end.NoMemory = NoMemory
 
--- a read failed, with no more bytes taken than a proof has
+-- a read failed, with no more bytes taken than a proof may have
 pub record FailsToRead (told : Type 0) (old new : World) : Type 0 where
   pub rose : Rose old.read_faults new.read_faults
   pub within : TakenWithin told ProofPort most_proof_bytes old new

@@ -19,7 +19,7 @@ use Rattle.hrt_solve.specs.Gauged.{value_of}
 abbrev pub IsPointOf : ℕ → List PairNo → List Bool → Type 0
 IsPointOf vars pairs bits = (v : ℕ) → 1 ≤ v → v ≤ vars → point_of bits v ≡ is_in v (numbers_of pairs)
 
--- more than so many pairs
+-- the row that more than so many pairs are taken
 abbrev pub larger_row : Lists → ℕ → PlainRow
 larger_row lists size = at_most_row (objective lists) (value_of size -ℤ pos 1)
 

@@ -73,7 +73,7 @@ pub record IsBoundText (lists : Lists) (text : List ℕ) : Type 0 where
   pub numbers : AreNumbersOf lists deleted top
   pub is_proof : IsProof lists text (bound_claim top) 0
 
--- and that one is as large as the promotion's
+-- the text is a proof that no weakly stable matching is larger than the ceiling, and that one is as large as the promotion's
 pub record IsQuickText (lists : Lists) (text : List ℕ) : Type 0 where
   pub deleted : ℕ
   pub top : ℕ
@@ -97,7 +97,7 @@ pub record IsQuickEnd (lists : Lists) (end : SolveEnd) : Type 0 where
   pub conflicts_are : end.conflicts ≡ 0
   pub best_is : end.best ≡ (length end.pairs.items == end.ceiling)
 
--- and the written proof says so
+-- the instance's numbers and the promotion's matching are told, and the model and a proof of them were written
 pub record IsSolvedQuickly (told : Type 0) (lists : Lists) (end : SolveEnd) (old new : World) : Type 0 where
   pub said : IsQuickEnd lists end
   pub proof : WritesProof told lists (found_claim end.ceiling (length end.pairs.items)) end.conflicts old new

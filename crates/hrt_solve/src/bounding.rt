@@ -43,6 +43,7 @@ pub(crate) fn gauge(
     ensures next { OnOk result (deriv.new.state.next < 10 ^ 17) }
     ensures valid { OnOk result (StaysValid deriv.old deriv.new) }
 {
+    // For what their contracts say: pairs and rows are few.
     let _pairs = inst.pairs();
     let _rows = model.row_count();
     let gone = reduce(alloc, inst, model, deriv)?;

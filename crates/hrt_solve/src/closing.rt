@@ -35,6 +35,7 @@ pub(crate) fn close(
     if size != gauged.end.ceiling {
         return Ok(());
     }
+    // For what their contracts say: pairs are few, and the live rows are in order.
     let _pairs = model.instance().pairs();
     let _next = deriv.next();
     let steps = [PolStep::Id(bound), PolStep::Id(larger), PolStep::Add];

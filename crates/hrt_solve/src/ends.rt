@@ -1,15 +1,17 @@
 // What the jobs that write a proof come to.
 use hrt_base::PairNo;
 
-/// What the job that bounds comes to: how many pairs are in no weakly stable matching, and the most pairs that one has.
+/// What bounding comes to: how many pairs the two rules delete, none of which is in a weakly stable matching, and the ceiling,
+/// a number of pairs that no weakly stable matching passes.
 #[derive(Clone, Copy, Debug, PartialEq, Eq)]
 pub struct BoundEnd {
     pub deleted: u32,
     pub ceiling: u32,
 }
 
-/// What a solve comes to: how many pairs are in no weakly stable matching, the most pairs that one has, how many the first
-/// matching has, how many rows were learned, the pairs of the matching, rising, and whether no other is larger.
+/// What a solve comes to: how many pairs the two rules delete, the ceiling, how many pairs the first matching has, how many
+/// rows were learned, the pairs of the matching, rising, and whether they are as many as the ceiling, so that no other
+/// matching is larger.
 #[derive(Debug, Drop)]
 pub struct SolveEnd {
     pub deleted: u32,

@@ -51,6 +51,7 @@ pub(crate) fn log(
     ensures larger { IfOk result (λ id. row_of id.0 deriv.new.state.live ≡ Some (larger_row deriv.new.lists (length pairs.now))) }
     ensures valid { StaysValid deriv.old deriv.new }
 {
+    // For what its contract says: the live rows are in order.
     let _next = deriv.next();
     let point = point_of(alloc, model.instance().pairs(), pairs)?;
     let id = deriv.solution(alloc, model, &point)?;

@@ -29,7 +29,7 @@ pub fn are_names(items: &[u8]) -> bool
     true
 }
 
-/// Where groups stand.
+/// Where a token of a list stands: outside a tie, right behind its `(`, or behind a name in it.
 #[derive(Clone, Copy, Debug)]
 pub enum Place {
     Outside,
@@ -52,7 +52,7 @@ fn place_after(place: Place, token: Token) -> Option<Place>
     }
 }
 
-/// Whether the items are groups.
+/// Whether the items are names and ties: a tie has a name or more, is closed, and holds no other.
 pub fn are_groups(items: &[u8]) -> bool
     ensures { result ≡ not (is_none (groups_of (tokens items.now))) }
 {

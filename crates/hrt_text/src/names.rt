@@ -28,7 +28,7 @@ fn are_name_bytes(word: &[u8]) -> bool
     word.iter().all(|byte| is_name_byte(*byte))
 }
 
-/// Whether the word is a name.
+/// Whether the word is a name: 1 to 64 bytes, none below 0x21, and none of 0x7F, `#`, `:`, `(` and `)`.
 pub fn is_name(word: &[u8]) -> bool
     ensures { result ≡ is_name word.now }
 {
@@ -58,7 +58,7 @@ fn value_of(word: &[u8]) -> Option<u32>
     Some(value)
 }
 
-/// The capacity that the word spells, if it spells one.
+/// The capacity that the word spells: 1 to 5 digits, at most 20,000.
 pub fn capacity_of(word: &[u8]) -> Option<u32>
     ensures some { IfSome result (λ posts. is_capacity word.now ≡ true) }
     ensures value { IfSome result (λ posts. posts ≡ value_from 0 word.now) }

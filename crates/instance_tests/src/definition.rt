@@ -19,12 +19,13 @@ pub struct Small {
 /// Which pairs of resident and hospital are chosen.
 pub type Chosen = [[bool; 3]; 3];
 
-// A fixed rule that spreads numbers.
+// A linear congruential generator: a number less than `below`.
 fn next(state: &mut u32, below: u32) -> u32 {
     *state = state.wrapping_mul(1_664_525).wrapping_add(1_013_904_223);
     (*state >> 16).checked_rem(below).unwrap_or(0)
 }
 
+/// The instance of a number: ranks from 0 to 3, posts from 0 to 2.
 pub fn instance_of(number: u32) -> Small {
     let mut state = number;
     let mut small = Small {
@@ -43,6 +44,7 @@ pub fn instance_of(number: u32) -> Small {
 }
 
 impl Small {
+    /// The rank of hospital h with resident r, 0 where it is not named.
     pub fn rank_by_resident(&self, r: usize, h: usize) -> u32
         requires r { r < 3 }
         requires h { h < 3 }
@@ -50,6 +52,7 @@ impl Small {
         self.by_resident[r][h]
     }
 
+    /// The rank of resident r with hospital h, 0 where it is not named.
     pub fn rank_by_hospital(&self, r: usize, h: usize) -> u32
         requires r { r < 3 }
         requires h { h < 3 }
@@ -57,6 +60,7 @@ impl Small {
         self.by_hospital[h][r]
     }
 
+    /// Whether each names the other.
     pub fn is_acceptable(&self, r: usize, h: usize) -> bool
         requires r { r < 3 }
         requires h { h < 3 }
@@ -64,6 +68,7 @@ impl Small {
         self.by_resident[r][h] > 0 && self.by_hospital[h][r] > 0
     }
 
+    /// The text of the instance.
     pub fn text(&self, alloc: Global) -> Result<Vec<u8>, NoMemory> {
         let mut text = Vec::new(alloc);
         text.extend_from_slice(b"hrt 1\n")?;
@@ -87,6 +92,7 @@ impl Small {
         Ok(text)
     }
 
+    /// How many posts hospital h has.
     pub fn posts_of(&self, h: usize) -> u32
         requires { h < 3 }
     {
@@ -204,6 +210,7 @@ pub fn chosen_of(small: &Small, bits: u32) -> Option<Chosen> {
     Some(chosen)
 }
 
+/// The text of the chosen pairs.
 pub fn pairs_text(alloc: Global, chosen: &Chosen) -> Result<Vec<u8>, NoMemory> {
     let mut text = Vec::new(alloc);
     for r in 0..3 {

@@ -14,7 +14,7 @@ use stability_model::Model;
 use std::alloc::Global;
 use std::test::Fail;
 
-// The resident has at this hospital a rank below which fewer others are left than there are posts.
+// Fewer others than the hospital has posts are left that it ranks at least as high as the resident.
 fn is_sure(small: &Small, gone: &Chosen, r: usize, h: usize) -> bool
     requires r { r < 3 }
     requires h { h < 3 }

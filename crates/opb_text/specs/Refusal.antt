@@ -15,7 +15,7 @@ use Rattle.opb_text.specs.Statements.{Line, Statement, constraint, formula_said,
 
 -- ---- the refusal of line k by what it says
 
--- at most one objective, before all rows: nothing was said before it
+-- the refusal of line k, an objective: `Syntax` where anything was said before it, then by its sizes, then by its variables
 abbrev pub objective_refusal : ℕ → Bool → List Term → Option OpbRefusal
 objective_refusal k begun terms =
     if begun then Some (Syntax k)
@@ -23,7 +23,7 @@ objective_refusal k begun terms =
     else if nat_lt most_variables (greatest_variable terms) then Some (TooManyVariables k)
     else None
 
--- behind so many rows
+-- the refusal of line k, a row behind so many rows
 abbrev pub row_refusal : ℕ → ℕ → Written → Option OpbRefusal
 row_refusal k rows row =
     if nat_lt (2 ^ 120) (all_sizes row.terms row.at_least) then Some (TooBig k)
@@ -49,7 +49,7 @@ abbrev pub line_refusal : List Line → Line → Option OpbRefusal
 line_refusal before line =
     statement_refusal (length before + 1) (has_begun (statements before)) (length (flat_map rows_in (statements before))) (read_statement line)
 
--- of the first line that has one, behind those before
+-- the refusal of the first line that has one, where these lines stand before
 abbrev pub first_refusal : List Line → List Line → Option OpbRefusal
 first_refusal before [] = None
 first_refusal before (line ∷ lines) = option_or (line_refusal before line) (first_refusal (before ++ line ∷ []) lines)
@@ -58,7 +58,7 @@ first_refusal before (line ∷ lines) = option_or (line_refusal before line) (fi
 abbrev pub lines_of : List ℕ → List Line
 lines_of bytes = map tokens (lines bytes)
 
--- of the first line that has one
+-- the refusal of a text: that of the first line that has one
 abbrev pub refusal : List ℕ → Option OpbRefusal
 refusal bytes = first_refusal [] (lines_of bytes)
 

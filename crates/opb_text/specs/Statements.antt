@@ -12,7 +12,7 @@ use Rattle.row_text.specs.Tokens.{is_comment}
 abbrev pub Line : Type 0
 Line = List (List ℕ)
 
--- nothing is said by a blank line and by a comment
+-- what a line says: nothing, as a blank line and a comment do, an objective, or a row
 pub data Statement : Type 0 where
   nothing : Statement
   minimize : List Term → Statement
@@ -34,7 +34,7 @@ read_statement (t ∷ ts) =
 
 -- ---- what lines say together
 
--- a line that isn't spelled says nothing
+-- what lines say, in their order; a line that isn't spelled is left out
 abbrev pub statements : List Line → List Statement
 statements lines = filter_map read_statement lines
 
@@ -62,7 +62,7 @@ speaks nothing = false
 speaks (minimize terms) = true
 speaks (constraint row) = true
 
--- 0 where there is no term
+-- the greatest variable of the terms, 0 where there is no term
 abbrev pub greatest_variable : List Term → ℕ
 greatest_variable [] = 0
 greatest_variable (t ∷ ts) = max t.lit.var (greatest_variable ts)

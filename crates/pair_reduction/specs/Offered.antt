@@ -29,6 +29,7 @@ pub record ReducesBy (lists : Lists) (old new : Derived) (before after : Deletio
 abbrev pub offers_left : Lists → Offers → ℕ
 offers_left lists offers = pair_count lists - length offers.made.items
 
--- a marked pair that the hospital of p strictly prefers to p
+-- whether q is marked and has a smaller rank with its hospital than p with its own; for pairs of one hospital: it strictly
+-- prefers q to p
 abbrev pub is_offering : Lists → List Bool → ℕ → ℕ → Bool
 is_offering lists only p q = nat_lt (rank_by_hospital lists q) (rank_by_hospital lists p) && is_marked only q

@@ -27,7 +27,7 @@ offer_row lists q = in_normal_form (record { terms = map (λ v. term (offer_coef
 
 -- ---- the line that makes the row
 
--- another pair that its resident ranks at least as high as q
+-- whether o is another pair than q, ranked by its resident at least as high as q by its own
 abbrev pub is_before : Lists → ℕ → ℕ → Bool
 is_before lists q o = not (o == q) && nat_le (rank_by_resident lists o) (rank_by_resident lists q)
 

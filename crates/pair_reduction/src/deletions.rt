@@ -19,7 +19,8 @@ use hrt_base::{NoMemory, PairNo, RowNo};
 use stability_model::Model;
 use std::alloc::Global;
 
-/// Makes the offers by which a pair, and what its list ranks as low, is deleted by the rule of a side. Rule A takes none.
+/// Makes the offers by which a pair, and what its list ranks as low, is deleted by the rule of a side. The rule of the
+/// residents' side takes none.
 pub(crate) fn serve(
     alloc: Global,
     model: &Model,
@@ -69,6 +70,7 @@ pub(crate) fn delete_by_rule(
     ensures goes_on { GoesOn deriv.old deriv.new }
     ensures one { deriv.new.state.next ≤ deriv.old.state.next + 1 }
 {
+    // For what their contracts say: the list is one of the side's, and the live rows are in order.
     let _list = list_of(model.instance(), side, w);
     let _next = deriv.next();
     delete(alloc, model, deriv, gone, w)?;
@@ -87,6 +89,7 @@ pub(crate) fn forget(alloc: Global, deriv: &mut Derivation, ids: &[RowNo]) -> Re
     if ids.is_empty() {
         return Ok(());
     }
+    // For what its contract says: the live rows are in order.
     let _last = deriv.next();
     deriv.forget(alloc, ids)?;
     Ok(())

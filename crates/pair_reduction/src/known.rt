@@ -76,7 +76,7 @@ impl Known {
         self.marks(side)[p.0 as usize - 1]
     }
 
-    /// Has a list of a side wait.
+    /// Makes a list of a side wait.
     pub(crate) fn wait(&mut self, side: Side, n: u32) -> Result<(), NoMemory>
         requires { n < length (waiting_on side self.old) }
         ensures { OnOk result (Waits side self.old self.new n) }

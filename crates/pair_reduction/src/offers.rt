@@ -52,7 +52,8 @@ fn push_row(steps: &mut Vec<PolStep>, number: Option<u32>) -> Result<(), NoMemor
     Ok(())
 }
 
-/// Adds what a pair of the resident of q takes away, if it is ranked as high as q.
+/// Adds the unit row of another pair of the resident of q, as often as there are posts, if it is deleted and ranked at least
+/// as high as q.
 fn push_before(
     steps: &mut Vec<PolStep>,
     inst: &Instance,
@@ -116,6 +117,7 @@ pub(crate) fn offer(
 {
     let inst = model.instance();
     let hospital = inst.hospital_of(q);
+    // For what their contracts say: these numbers are small, and the live rows are in order.
     let _limits = (inst.pairs(), inst.residents(), inst.capacity(hospital));
     let _numbers = (model.pair_row(q), deriv.next());
     let steps = offer_steps(alloc, model, gone, q)?;
@@ -162,7 +164,7 @@ fn is_offering(inst: &Instance, known: &Known, p: PairNo, q: PairNo) -> bool
     inst.rank_by_hospital(q) < inst.rank_by_hospital(p) && known.is_marked(Side::Resident, q)
 }
 
-/// Makes so many offers to the hospital of p as it has posts, of marked pairs that it strictly prefers. Those that were made before
+/// Makes as many offers to the hospital of p as it has posts, of marked pairs that it strictly prefers. Those that were made before
 /// count.
 pub(crate) fn make_offers(
     alloc: Global,

@@ -17,7 +17,7 @@ use stability_model::Model;
 use std::alloc::Global;
 
 /// Deletes exactly the pairs of the least set that is closed under both rules (`gone`), each by a line that makes its unit row and
-/// by a note of it. After a refusal the derivation may have more lines.
+/// by a note of it. After want of memory the derivation may have more lines.
 pub fn reduce(
     alloc: Global,
     inst: &Instance,
@@ -38,6 +38,7 @@ pub fn reduce(
     ensures goes_on { GoesOn deriv.old deriv.new }
     ensures few { MakesFew (pair_count deriv.old.lists) deriv.old deriv.new }
 {
+    // For what its contract says: the live rows are in order.
     let _start = deriv.next();
     let mut known = Known::new(alloc, inst)?;
     let mut offers = Offers::new(alloc, inst.pairs())?;

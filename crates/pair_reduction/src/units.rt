@@ -50,6 +50,7 @@ pub(crate) fn delete(
     ensures early { OnErr result (StopsAtUnit p.0 deriv.old deriv.new) }
     ensures valid { StaysValid deriv.old deriv.new }
 {
+    // For what their contracts say: there are few pairs, and the live rows are in order.
     let _limits = (model.instance().pairs(), deriv.next());
     let row = unit_row(alloc, p)?;
     let id = deriv.rup(alloc, model, row)?;

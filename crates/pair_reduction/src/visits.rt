@@ -23,7 +23,8 @@ use rank_tables::Instance;
 use stability_model::Model;
 use std::alloc::Global;
 
-/// The first by rank of a pair to be deleted, if there is one, and another.
+/// Of the first by rank so far of the pairs to be deleted, if there is one, and a pair w: the first by rank, where w is to be
+/// deleted.
 fn sooner(
     inst: &Instance,
     known: &Known,
@@ -236,7 +237,7 @@ fn mark_all_free(
     Ok(())
 }
 
-/// Visits a list that waits: its tests say nothing new then, and it waits no more.
+/// Visits a list that waits: deletes its passed pairs and marks its free ones. It waits no more.
 pub(crate) fn visit(
     alloc: Global,
     model: &Model,

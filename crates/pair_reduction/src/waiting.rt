@@ -39,7 +39,7 @@ impl Waiting {
         Ok(Waiting { flags, stack })
     }
 
-    /// Has a list wait.
+    /// Makes a list wait.
     pub(crate) fn add(&mut self, n: u32) -> Result<(), NoMemory>
         requires { n < length self.old }
         ensures { OnOk result (self.new ≡ slice_set self.old n true) }

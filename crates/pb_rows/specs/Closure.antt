@@ -36,7 +36,8 @@ literals_of values l = makes_true (slice_index_or values (l.var - 1) Free) l.neg
 
 -- ---- slack
 
--- a literal is false where its opposite is in the set
+-- the coefficient, where it isn't negative, of a term whose literal isn't false, else 0; a literal is false where its opposite
+-- is in the set
 abbrev pub nonfalse_share : Literals → Term → ℕ
 nonfalse_share set t = if set (opposite_lit t.lit) then 0 else weight t.coef
 
@@ -69,7 +70,8 @@ pub record Keeps (set : Literals) (r : PlainRow) : Type 0 where
   pub unfalsified : r.degree ≤ nonfalse_sum set r.terms
   pub settled : All (IsSettled set r) r.terms
 
--- nothing is left to do, and nothing is wrong
+-- the set holds the given literals, never both signs of a variable, and all that a row propagates under it, and it falsifies
+-- no row
 pub record IsQuiet (rows : List PlainRow) (given set : Literals) : Type 0 where
   pub has_given : (l : Lit) → IsTrue (given l) → IsTrue (set l)
   pub consistent : (l : Lit) → IsTrue (set l) → IsFalse (set (opposite_lit l))
@@ -84,6 +86,6 @@ pub record IsClosure (rows : List PlainRow) (given set : Literals) : Type 0 wher
   pub quiet : IsQuiet rows given set
   pub least : (other : Literals) → IsQuiet rows given other → (l : Lit) → IsTrue (set l) → IsTrue (other l)
 
--- the row follows from the rows by propagation alone
+-- the rows together with the row's opposite are refuted, with nothing given
 abbrev pub Implies : List PlainRow → PlainRow → Type 0
 Implies rows r = Refuted (opposite_row r ∷ rows) none

@@ -63,7 +63,7 @@ met t u =
 abbrev pub lost_between : Term → Term → ℕ
 lost_between t u = if are_alike t u then 0 else min (weight t.coef) (weight u.coef)
 
--- the list with one more term
+-- the list with one more term in its place, joined with the term over its variable if there is one
 abbrev pub put : Term → List Term → List Term
 put t [] = t ∷ []
 put t (u ∷ us) =

@@ -33,7 +33,7 @@ times k r = record { terms = map (scaled k) r.terms; degree = r.degree * k }
 abbrev pub divide : ℕ → PlainRow → PlainRow
 divide k r = record { terms = map (divided k) r.terms; degree = div_ceil r.degree k }
 
--- no coefficient above the degree
+-- each coefficient becomes the smaller of itself and the degree, and terms with 0 go
 abbrev pub saturate : PlainRow → PlainRow
 saturate r = record r { terms = filter is_present (map (capped r.degree) r.terms) }
 
@@ -41,7 +41,8 @@ saturate r = record r { terms = filter is_present (map (capped r.degree) r.terms
 abbrev pub weaken : ℕ → PlainRow → PlainRow
 weaken v r = record { terms = filter (λ t. not (is_over v t)) r.terms; degree = r.degree - weight_over v r.terms }
 
--- the row that holds exactly where this one doesn't
+-- the opposite literals with the same coefficients, to at least their sum plus 1 minus the degree: it holds exactly where the
+-- row doesn't
 abbrev pub opposite_row : PlainRow → PlainRow
 opposite_row r = record { terms = map negated r.terms; degree = (coef_sum r.terms + 1) - r.degree }
 

@@ -13,7 +13,7 @@ pub record Written : Type 0 where
   pub terms : List Term
   pub at_least : ℤ
 
--- A row in normal form: the coefficients of the true literals sum to at least the degree.
+-- A row: the coefficients of the true literals sum to at least the degree. That it is in normal form is said beside it.
 pub record PlainRow : Type 0 where
   pub terms : List Term
   pub degree : ℕ
@@ -25,7 +25,7 @@ abbrev pub IsPositive : ℤ → Type 0
 IsPositive (pos n) = 0 < n
 IsPositive (negsuc n) = ⊥
 
--- the size of a coefficient that isn't negative
+-- a coefficient that isn't negative as it is, and 0 for a negative one
 abbrev pub weight : ℤ → ℕ
 weight (pos n) = n
 weight (negsuc n) = 0

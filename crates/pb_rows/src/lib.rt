@@ -11,5 +11,5 @@ mod tests;
 
 pub use row::{Row, RowRefusal, TooBig};
 
-/// The most that fits.
+/// The most that the coefficients of a row may sum to, and the most that its degree may be.
 pub(crate) const MOST: u128 = 1 << 120;

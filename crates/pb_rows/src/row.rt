@@ -32,8 +32,8 @@ pub enum RowRefusal {
 #[error("the row is too big")]
 pub struct TooBig;
 
-/// A pseudo-Boolean row: the coefficients of the true literals sum to at least the degree. Coefficients are positive,
-/// variables rise, and no number passes 2^120.
+/// A pseudo-Boolean row: the coefficients of the true literals sum to at least the degree. Coefficients are positive and sum
+/// to at most 2^120, variables rise, and the degree is at most 2^120.
 #[derive(Drop)]
 pub struct Row {
     terms: Vec<Term>,

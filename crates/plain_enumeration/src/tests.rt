@@ -1,4 +1,4 @@
-//! Instances worked by hand. Each post of a hospital is its only one.
+//! Instances worked by hand. Each hospital has one post.
 ghost use Rattle.std.specs.Prelude.{◌≡◌, [], ◌∷◌, true, false, IfOk, IsTrue};
 ghost use Rattle.rank_tables.specs.Names.{is_name};
 

@@ -32,7 +32,7 @@ holds lists standings p =
 abbrev pub held : Lists → List Standing → List ℕ
 held lists standings = filter (holds lists standings) (numbers_to (pair_count lists))
 
--- those of a hospital
+-- the pairs that are assigned to a hospital, rising
 abbrev pub held_at : Lists → List Standing → ℕ → List ℕ
 held_at lists standings h = filter (λ p. (pair_at lists p).hospital == h) (held lists standings)
 

@@ -31,9 +31,9 @@ fn held_pairs(
     Ok(pairs)
 }
 
-/// A weakly stable matching, its pairs rising, made by deferred acceptance with one promotion of each resident that its
-/// whole list refused. A proposal takes time that grows with the logarithm of the hospital's residents, and each resident
-/// makes at most two by each of its pairs.
+/// A weakly stable matching, its pairs rising, made by deferred acceptance with one promotion of each resident that its whole
+/// list refused. A proposal takes time that grows with the logarithm of the number of the hospital's residents, and each
+/// resident proposes at most twice by each of its pairs.
 pub fn promote(alloc: Global, inst: &Instance) -> Result<Vec<PairNo>, NoMemory>
     ensures steps { IfOk result (λ pairs. numbers_of pairs.items ≡ promotion inst.now) }
     ensures ended { OnOk result (proposal inst.now (final inst.now) ≡ None) }

@@ -27,6 +27,7 @@ impl Model for Queues {
 }
 
 impl Queues {
+    /// No tenant at any of so many hospitals.
     pub fn new(alloc: Global, hospitals: u32) -> Result<Queues, NoMemory>
         ensures count { IfOk result (λ q. length q ≡ hospitals) }
         ensures empty { IfOk result (λ q. (h : ℕ) → row q h ≡ []) }
@@ -38,6 +39,7 @@ impl Queues {
         Ok(Queues { rows })
     }
 
+    /// How many tenants hospital h has.
     pub fn len(&self, h: u32) -> usize
         requires { h < length self.now }
         ensures { result ≡ length (row self.now h) }
@@ -45,6 +47,7 @@ impl Queues {
         self.rows[h as usize].as_slice().len()
     }
 
+    /// The worst tenant of hospital h, if it has one.
     pub fn worst(&self, h: u32) -> Option<Tenant>
         requires { h < length self.now }
         ensures { MatchOption result (row self.now h ≡ []) (IsFirst (row self.now h)) }
@@ -52,6 +55,7 @@ impl Queues {
         self.rows[h as usize].peek().copied()
     }
 
+    /// Adds a tenant to hospital h.
     pub fn push(&mut self, h: u32, tenant: Tenant) -> Result<(), NoMemory>
         requires { h < length self.old }
         ensures { OnOk result (Adds self.old self.new h tenant) }
@@ -60,6 +64,7 @@ impl Queues {
         Ok(())
     }
 
+    /// Takes out the worst tenant of hospital h.
     pub fn pop(&mut self, h: u32) -> Option<Tenant>
         requires { h < length self.old }
         ensures { MatchOption result (row self.old h ≡ []) (λ x. IsFirst (row self.old h) x × Adds self.new self.old h x) }

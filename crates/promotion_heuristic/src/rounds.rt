@@ -21,6 +21,7 @@ pub struct Rounds {
 }
 
 impl Rounds {
+    /// Every resident at the top of its list, and every hospital without a tenant.
     pub fn start(alloc: Global, inst: &Instance) -> Result<Rounds, NoMemory>
         ensures standings { IfOk result (λ rounds. rounds.standings.items ≡ start inst.now) }
         ensures kept { IfOk result (λ rounds. IsKept inst.now rounds.standings.items rounds.queues) }

@@ -31,7 +31,7 @@ reason_of NoMemory = None
 abbrev pub Answers : {A : Type 0} → Result A Refusal → Fault → Type 0
 Answers answer fault = IfSome (reason_of fault) (λ reason. answer ≡ Err reason)
 
--- the point isn't full, where that is so
+-- unless memory was wanting, the fault is `NotFull`, and this is so
 abbrev pub IsNotFullWhere : Type 0 → Fault → Type 0
 IsNotFullWhere so fault = IfSome (reason_of fault) (λ reason. (reason ≡ why.NotFull) × so)
 
@@ -39,7 +39,7 @@ IsNotFullWhere so fault = IfSome (reason_of fault) (λ reason. (reason ≡ why.N
 abbrev pub Halts : Formula → Place → Line → Fault → Type 0
 Halts f here line fault = IfSome (reason_of fault) (Refuses f here line)
 
--- the same of the steps of a line
+-- the fault for the refusal of a `pol` line's steps
 abbrev pub fault_of : StepRefusal → Fault
 fault_of (step.BadId id) = BadId id
 fault_of (step.BadVariable var) = BadVariable var
@@ -47,7 +47,7 @@ fault_of step.StackShape = StackShape
 fault_of step.TooBig = TooBig
 fault_of step.NoMemory = NoMemory
 
--- with the line's number
+-- the checker's refusal for a fault, with the line's number
 abbrev pub at_line : ℕ → Fault → ProofRefusal
 at_line line Syntax = refusal.Syntax line
 at_line line TooBig = refusal.TooBig line

@@ -33,7 +33,7 @@ pub data Led : Type 0 where
   Here : Place → ℕ → Option (List ℕ) → Led
   Stopped : RefusalAt → Led
 
--- an unfinished line; of one that is longer than any line may be, only that it is
+-- an unfinished line; of one of more than 16,777,216 bytes, only that it is so long
 abbrev pub unfinished : List ℕ → Option (List ℕ)
 unfinished rest = if nat_le (length rest) most_bytes then Some rest else None
 
@@ -42,7 +42,7 @@ abbrev pub LeadsTo : Formula → List ℕ → Led → Type 0
 LeadsTo f bytes (Here place lines line) = Reaches f Start (whole_lines bytes) place × (length (whole_lines bytes) ≡ lines) × (unfinished (cut bytes).rest ≡ line)
 LeadsTo f bytes (Stopped refusal) = (n : ℕ) × (refusal.line ≡ n + 1) × Stops f Start (whole_lines bytes) n refusal.why
 
--- What a checker shows is where the bytes lead that it was fed. It stands for each text that leads to the same.
+-- A checker that still takes bytes stands for each text that leads to the same as the bytes that it was fed.
 pub record StandsFor (text : List ℕ) (checked : Checked) : Type 0 where
   pub reading : checked.phase ≡ Reading
   pub leads : (led : Led) → LeadsTo checked.formula checked.bytes led ↔ LeadsTo checked.formula text led

@@ -8,15 +8,15 @@ use Rattle.proof_rules.specs.Refusals.{Refusal}
 use Rattle.proof_rules.specs.Claims.{IsReached}
 use Rattle.proof_rules.specs.States.{if_hold, if_known, is_full, literals_in, named_point}
 
--- each literal's variable is at most vars
+-- Ok where each literal's variable is at most vars, else the refusal that names the first one above
 abbrev pub known_literals : ℕ → List Lit → Result (Unit {0}) Refusal
 known_literals vars ls = if_known vars ls (Ok tt)
 
--- each term's variable is at most vars
+-- the same of the literals of terms: Ok, or the refusal that names the first variable above vars
 abbrev pub known_terms : ℕ → List Term → Result (Unit {0}) Refusal
 known_terms vars terms = known_literals vars (literals_in terms)
 
--- each row holds at the point
+-- Ok where each row holds at the point, else the refusal that names the first that doesn't, counted from 1
 abbrev pub holding_rows : Point → List PlainRow → Result (Unit {0}) Refusal
 holding_rows p rows = if_hold p 1 rows (Ok tt)
 

@@ -62,7 +62,8 @@ fn shows_none(alloc: Global, state: &mut State) -> Result<bool, NoMemory>
     Ok(refuted)
 }
 
-/// Tells the same of a lower bound that is beyond all values of the objective, on either side.
+/// Tells whether a state shows a lower bound whose row is too big: one below all values of the objective always, one above
+/// them where nothing is logged and the live rows are refuted.
 fn shows_far(alloc: Global, state: &mut State, lower: i128) -> Result<bool, NoMemory>
     ensures shown { IfOk result (λ shown. IsTrue shown ↔ ((lower <ℤ pos 0) ⊎ ShowsNone state.old.state)) }
     ensures same { state.new ≡ state.old }

@@ -49,7 +49,7 @@ impl<T: Drop> From<AllocFailed<T>> for Fault {
 }
 
 impl Fault {
-    /// The same of the steps of a line.
+    /// The fault of a line whose steps make no row.
     pub fn of_steps(refusal: StepRefusal) -> Fault
         ensures { result ≡ fault_of refusal }
     {

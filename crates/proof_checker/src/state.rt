@@ -52,6 +52,7 @@ fn first_rows(alloc: Global, vars: u32, rows: &[Row]) -> Result<Live, NoMemory>
     let mut live = Live::new(alloc, vars)?;
     let mut next = 1;
     for row in rows {
+        // Its contract says that the row is in normal form.
         let _terms = row.terms();
         let copy = row.copy(alloc)?;
         live.add(alloc, RowNo(next), copy)?;

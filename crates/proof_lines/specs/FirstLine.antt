@@ -8,7 +8,8 @@ use Rattle.proof_lines.specs.declared.refusal.LineRefusal.{LineRefusal}
 use Rattle.proof_lines.specs.declared.refusal.LineRefusal.TheVariants.{Syntax, TooBig, NoMemory}
 use Rattle.proof_lines.specs.Spelling.{is_small_line, read_line}
 
--- the kind of a line with a number that is too big: no other kinds have numbers
+-- the kind of a line with a number past 2^120, which only `pol`, `rup` and `conclusion` lines can have; `pol` for every other
+-- line
 abbrev pub kind_of : Line → LineKind
 kind_of (Rup row) = rup_kind
 kind_of (Conclusion claim) = conclusion_kind
@@ -19,7 +20,7 @@ abbrev pub judged : Option Line → Result Line LineRefusal
 judged None = Err Syntax
 judged (Some line) = if is_small_line line then Ok line else Err (TooBig (kind_of line))
 
--- with its length
+-- the line with its length, or the refusal
 abbrev pub counted : ℕ → Result Line LineRefusal → Result (Option (Line × ℕ)) LineRefusal
 counted n (Ok line) = Ok (Some (line, n))
 counted n (Err refusal) = Err refusal

@@ -18,7 +18,8 @@ pub record Front (A : Type 0) : Type 0 where
 abbrev pub with_item : {A : Type 0} → A → Front A → Front A
 with_item x front = record { items = x ∷ front.items; behind = front.behind }
 
--- None where there is no `:`, or a token before it isn't read
+-- what stands before the first `:`, read item by item, and the tokens behind it; None where there is no `:` or a token before
+-- it isn't read
 abbrev pub read_front : {A : Type 0} → (List ℕ → Option A) → List (List ℕ) → Option (Front A)
 read_front read [] = None
 read_front read (t ∷ ts) = if bytes_eq t (codes ":") then Some (record { items = []; behind = ts }) else both with_item (read t) (read_front read ts)

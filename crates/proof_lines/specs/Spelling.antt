@@ -30,7 +30,7 @@ one_or_more (Some (x ∷ xs)) = Some (x ∷ xs)
 
 -- ---- `pol`
 
--- a factor is at least 1
+-- what was read, where it is a factor: a number of at least 1
 abbrev pub factor : Option ℤ → Option ℤ
 factor None = None
 factor (Some (pos n)) = if nat_le 1 n then Some (pos n) else None
@@ -49,7 +49,7 @@ read_step t =
     else if bytes_eq t (codes "s") then Some Saturate
     else id_or_axiom (read_id t) (read_literal t)
 
--- a token before `*`, `d` or `w` is a factor or a variable
+-- the steps that tokens spell, None where one isn't spelled; a token before `*` or `d` is a factor, one before `w` a variable
 abbrev pub read_steps : List (List ℕ) → Option (List PolStep)
 read_steps [] = Some []
 read_steps (t ∷ []) = option_map (λ step. step ∷ []) (read_step t)

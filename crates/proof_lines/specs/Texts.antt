@@ -129,7 +129,8 @@ abbrev pub is_some_of : {A : Type 0} → (A → Bool) → List A → Bool
 is_some_of test [] = false
 is_some_of test (x ∷ xs) = list_all test (x ∷ xs)
 
--- Row numbers are 1 to 10^18 - 1, variables 1 to 4,294,967,295, factors at least 1, and steps and row numbers are not missing.
+-- The line has a spelling: row numbers are 1 to 10^18 - 1, a count at most 10^18 - 1, variables 1 to 4,294,967,295, factors at
+-- least 1, and a `pol` line has a step and a `del` line a row number.
 abbrev pub is_made : Line → Bool
 is_made (Count n) = nat_le n (10 ^ 18 - 1)
 is_made (Pol steps) = is_some_of is_made_step steps
@@ -138,7 +139,7 @@ is_made (Soli lits) = list_all is_made_literal lits
 is_made (Del ids) = is_some_of is_made_id ids
 is_made line = true
 
--- the note has a spelling: its row numbers and variables have one, and where rows are held there is at least one
+-- the note has a spelling: its row numbers and variables have one, and a load note has at least one row number
 abbrev pub is_made_note : Note → Bool
 is_made_note (unit_note r) = is_made_id r
 is_made_note (bound_note r) = is_made_id r

@@ -95,7 +95,8 @@ fn push_in_pieces(note: &Note, out: &mut Vec<u8>) -> Result<(), NoMemory>
     Ok(())
 }
 
-/// Appends a note with its line feed. It has to be a note that a text spells. What is written reads as the note.
+/// Appends a note with its line feed. It has to be a note that a text spells. What is written reads as the note where it has
+/// at most 16,777,216 bytes, its line feed among them.
 #[tactic(auto, using(crate::proofs::CutBack::cut_back, crate::proofs::Spelled::spelled_note_back))]
 pub fn push_note(note: &Note, out: &mut Vec<u8>) -> Result<(), NoMemory>
     requires spelled { (text : List ℕ) × (note_of text ≡ Some note.now) }

@@ -14,7 +14,7 @@ use hrt_base::{NoMemory, RowNo};
 use row_text::{Reading, next_token, read_id, read_literal, read_number, read_variable};
 use std::alloc::Global;
 
-// A factor is at least 1.
+// The factor that is spelled, at least 1. One with a minus sign is none, however big it is.
 fn read_factor(token: &[u8]) -> Reading<i128>
     ensures { result ≡ reading is_small (factor (read_number token.now)) }
 {

@@ -218,7 +218,8 @@ fn push_in_pieces(line: &Line, out: &mut Vec<u8>) -> Result<(), NoMemory>
     Ok(())
 }
 
-/// Appends a line with its line feed. It has to be a line that a text spells. What is written reads as the line.
+/// Appends a line with its line feed. It has to be a line that a text spells. What is written reads as the line where it has
+/// at most 16,777,216 bytes, its line feed among them.
 #[tactic(auto, using(crate::proofs::CutBack::cut_back, crate::proofs::Spelled::spelled_line_back))]
 pub fn push_line(line: &Line, out: &mut Vec<u8>) -> Result<(), NoMemory>
     requires spelled { (text : List ℕ) × (read_line text ≡ Some line.now) }

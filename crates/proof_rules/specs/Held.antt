@@ -34,7 +34,7 @@ held_rows live held = rows_of (filter (λ entry. is_held held entry.number) live
 abbrev pub HeldAreLive : List NumberedRow → Held → Type 0
 HeldAreLive live held = (n : ℕ) → IsTrue (is_held held n) → IsTrue (is_numbered n live)
 
--- the rows of residents and of hospitals stand before those of pairs
+-- what is held before any line: the rows of residents and of hospitals, which stand before those of pairs
 abbrev pub first_held : Lists → Held
 first_held lists = record { kept = numbers_to (pair_row_no lists 0); learned = []; learn_notes = 0 }
 
@@ -61,7 +61,7 @@ abbrev pub after_any_note : Option Note → Held → Held
 after_any_note None held = held
 after_any_note (Some note) held = after_note note held
 
--- the row of a solution is held
+-- what is held after a line: among the steps a `soli` line's row stays held too, and no other line changes it
 abbrev pub after_line : Place → Option Line → Held → Held
 after_line (Proving s) (Some (Soli ls)) held = keeping (s.next ∷ []) held
 after_line place line held = held

@@ -17,7 +17,7 @@ abbrev pub OneIsAsLarge : Lists → Option ℤ → Type 0
 OneIsAsLarge lists None = Unit {0}
 OneIsAsLarge lists (Some u) = (m : List ℕ) × IsTrue (is_weakly_stable lists m) × (neg_ℤ u ≤ℤ pos (length m))
 
--- every weakly stable matching has at most so many pairs, and one has at least so many
+-- what the claim says of weakly stable matchings is so: the bounds on their numbers of pairs, that there is none, or nothing
 abbrev pub SaysOfMatchings : Lists → Claim → Type 0
 SaysOfMatchings lists (Bounds lower upper) = NoneIsLarger lists lower × OneIsAsLarge lists upper
 SaysOfMatchings lists Unsat = (m : List ℕ) → IsTrue (is_weakly_stable lists m) → ⊥

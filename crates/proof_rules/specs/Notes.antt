@@ -44,7 +44,8 @@ AreDecisions rows earlier (d ∷ later) = ((set : Literals) × IsClosure rows (a
 abbrev pub Asserts : Literals → PlainRow → Lit → Type 0
 Asserts set row l = (t : Term) × Contains row.terms t × (t.lit ≡ l) × Propagates set row t
 
--- Under the decisions the held rows aren't refuted and leave the literal open, and the new row propagates it.
+-- Each decision is open in the closure under those before it. Under all of them the held rows aren't refuted and leave the
+-- literal open, and the new row propagates it.
 pub record Fresh (held : List PlainRow) (row : PlainRow) (decisions : List Lit) (l : Lit) : Type 0 where
   pub decided : AreDecisions held [] decisions
   pub set : Literals
@@ -74,7 +75,7 @@ is_greater [] bs = false
 is_greater (a ∷ more) [] = true
 is_greater (a ∷ more) (b ∷ bs) = nat_lt b a || (a == b && is_greater more bs)
 
--- a learned row, with what was held just before its note
+-- what a learn note says, beside its row: the rows held just before it, the decisions, and the literal
 pub record LearnedRow : Type 0 where
   pub held : List PlainRow
   pub decisions : List Lit

@@ -35,7 +35,7 @@ add_top [] = Err StackShape
 add_top (b ∷ []) = Err StackShape
 add_top (b ∷ a ∷ stack) = push_made (add a b) stack
 
--- the variables are those up to `vars`
+-- the stack after a step, or why it is refused; the variables are those up to `vars`
 abbrev pub run_step : ℕ → List NumberedRow → PolStep → List PlainRow → Result (List PlainRow) Refusal
 run_step vars live (Id n) stack = push_live n.0 (row_of n.0 live) stack
 run_step vars live (Axiom l) stack = if nat_le l.var vars then Ok (literal_row l ∷ stack) else Err (BadVariable l.var)
@@ -45,12 +45,12 @@ run_step vars live (Divide k) stack = on_top (divide (weight k)) stack
 run_step vars live Saturate stack = on_top saturate stack
 run_step vars live (Weaken v) stack = if nat_le v vars then on_top (weaken v) stack else Err (BadVariable v)
 
--- from left to right, up to the first step that fails
+-- the stack after the steps, from left to right, or the refusal of the first that fails
 abbrev pub run_steps : ℕ → List NumberedRow → List PolStep → List PlainRow → Result (List PlainRow) Refusal
 run_steps vars live [] stack = Ok stack
 run_steps vars live (step ∷ steps) stack = and_then (run_step vars live step stack) (λ next. run_steps vars live steps next)
 
--- one row is left
+-- the one row that is left, or `StackShape`
 abbrev pub only_row : List PlainRow → Result PlainRow Refusal
 only_row [] = Err StackShape
 only_row (row ∷ []) = Ok row

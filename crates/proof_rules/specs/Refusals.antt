@@ -14,7 +14,7 @@ pub data Refusal : Type 0 where
   BoundNotShown : Refusal  -- the claim isn't shown
   WrongCount : Refusal  -- the formula has another number of rows
 
--- the line is counted from 1
+-- why a line is refused, with the line's number, counted from 1
 pub record RefusalAt : Type 0 where
   pub line : ℕ
   pub why : Refusal

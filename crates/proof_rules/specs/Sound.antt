@@ -51,7 +51,8 @@ AreUnsigned (t ∷ ts) = (pos 0 ≤ℤ t.coef) × AreUnsigned ts
 abbrev pub IsUnsigned : PlainRow → Type 0
 IsUnsigned row = AreUnsigned row.terms
 
--- at each point that satisfies the formula and is better than all logged ones, the live rows hold
+-- The live rows hold at each point that satisfies the formula and has a value below the least logged one. The logged value, if
+-- any, is that of such a satisfying point, and no coefficient of a live row is negative.
 pub record IsSoundState (f : Formula) (s : State) : Type 0 where
   pub rows_hold : (p : Point) → AllHold p f.rows → IsBelow s.least (value_at p f.objective) → AllHold p (live_rows s)
   pub logged : IsLogged f s.least
@@ -63,10 +64,10 @@ pub record IsSoundState (f : Formula) (s : State) : Type 0 where
 abbrev pub HasNormalRows : Formula → Type 0
 HasNormalRows f = All (λ row. IsRisingFrom 0 row.terms) f.rows
 
--- whatever lines are a valid proof, its claim is true
+-- whatever lines are a valid proof of a formula whose rows are in normal form, its claim is true
 abbrev pub ProofsAreSound : Type 0
 ProofsAreSound = (f : Formula) (lines : List Line) (claim : Claim) → HasNormalRows f → IsValidProof f lines claim → IsTrueClaim f claim
 
--- whatever bytes are one
+-- whatever bytes are a valid proof of a formula whose rows are in normal form, its claim is true
 abbrev pub ProofTextsAreSound : Type 0
 ProofTextsAreSound = (f : Formula) (bytes : List ℕ) (claim : Claim) → HasNormalRows f → IsValidText f bytes claim → IsTrueClaim f claim

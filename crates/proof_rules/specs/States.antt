@@ -33,11 +33,11 @@ abbrev pub AreNumbered : ℕ → ℕ → List NumberedRow → Type 0
 AreNumbered low high [] = low ≤ high
 AreNumbered low high (entry ∷ entries) = (low ≤ entry.number) × AreNumbered (entry.number + 1) high entries
 
--- no two live rows have one number, and none has the next
+-- the live rows' numbers rise, from 1 on, and are below the next number
 abbrev pub IsInOrder : State → Type 0
 IsInOrder s = AreNumbered 1 s.next s.live
 
--- the formula's rows are live
+-- the state in which the steps begin: the formula's rows are live, and nothing is logged
 abbrev pub first_state : Formula → State
 first_state f = record { live = numbered_from 1 f.rows; next = length f.rows + 1; least = None }
 
@@ -95,7 +95,8 @@ abbrev pub if_hold : {A : Type 0} → Point → ℕ → List PlainRow → Result
 if_hold p n [] result = result
 if_hold p n (row ∷ rows) result = if holds p row then if_hold p (n + 1) rows result else Err (NotASolution n)
 
--- all rows of the formula are looked at, the deleted ones too
+-- the state after a `soli` line of these literals, or why it is refused; all rows of the formula are looked at, the deleted
+-- ones too
 abbrev pub after_soli : Formula → State → List Lit → Result State Refusal
 after_soli f s ls =
     if_known f.vars ls
@@ -105,7 +106,7 @@ after_soli f s ls =
 
 -- ---- del
 
--- from left to right, up to the first number that isn't live
+-- the live rows without those of these numbers, taken from left to right, or the first number that isn't live
 abbrev pub deleted : List RowNo → List NumberedRow → Result (List NumberedRow) Refusal
 deleted [] live = Ok live
 deleted (n ∷ ns) live = if is_numbered n.0 live then deleted ns (without n.0 live) else Err (BadId n.0)

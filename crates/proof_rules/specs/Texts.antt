@@ -74,7 +74,7 @@ IsRefusedText f bytes n why =
     Stops f Start (whole_lines bytes) n why
     ⊎ ((claim : Claim) × Reaches f Start (whole_lines bytes) (Done claim) × Stops f Start (all_lines bytes) n why)
 
--- the same with the line's number
+-- the line with this number, counted from 1, is refused for this reason
 abbrev pub IsRefusedAt : Formula → List ℕ → RefusalAt → Type 0
 IsRefusedAt f bytes refusal = (n : ℕ) × (refusal.line ≡ n + 1) × IsRefusedText f bytes n refusal.why
 

@@ -11,7 +11,7 @@ use Rattle.proof_rules.specs.Pol.{on_top}
 use Rattle.proof_steps.specs.declared.refusal.StepRefusal.{StepRefusal}
 use Rattle.proof_steps.specs.declared.refusal.StepRefusal.TheVariants.{BadId, BadVariable, StackShape, TooBig, NoMemory}
 
--- a factor is at least 1
+-- the step's factor, if it has one, is at least 1
 abbrev pub HasFactor : PolStep → Type 0
 HasFactor (Times k) = IsPositive k
 HasFactor (Divide k) = IsPositive k

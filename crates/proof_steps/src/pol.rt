@@ -63,6 +63,7 @@ fn push_axiom(alloc: Global, vars: u32, lit: Lit, stack: &mut Stack) -> Result<(
 fn push_made(stack: &mut Stack, row: Row) -> Result<(), NoMemory>
     ensures { OnOk result (push_made row stack.old ≡ Ok stack.new) }
 {
+    // Its contract says that the row is in normal form.
     let _terms = row.terms();
     stack.push(row)
 }

@@ -22,6 +22,7 @@ impl Model for Stack {
 }
 
 impl Stack {
+    /// No row.
     pub(crate) fn new(alloc: Global) -> Stack
         ensures { result ≡ [] }
     {
@@ -30,6 +31,7 @@ impl Stack {
         }
     }
 
+    /// Puts a row on top.
     pub(crate) fn push(&mut self, row: Row) -> Result<(), NoMemory>
         ensures { OnOk result (self.new ≡ row ∷ self.old) }
     {
@@ -37,6 +39,7 @@ impl Stack {
         Ok(())
     }
 
+    /// Takes the top row off.
     pub(crate) fn pop(&mut self) -> Option<Row>
         ensures { MatchOption result (self.old ≡ []) (λ row. self.old ≡ row ∷ self.new) }
     {

@@ -1,4 +1,4 @@
--- Slots, which hold the live rows. An empty one held a row that was removed.
+-- Slots, which hold the live rows. An empty one held a row that was removed, or was made for one that couldn't be added.
 use Rattle.std.specs.Prelude.{◌≡◌, ◌≤◌, ◌^◌, ℕ, List, [], ◌∷◌, Option, Some, None, slice_index_or}
 use Rattle.std.specs.List.{All}
 use Rattle.hrt_base.specs.declared.literal.Term.{Term}

@@ -104,7 +104,7 @@ impl Live {
     }
 
     /// Tells whether the rows and the given literals are refuted. Where they aren't, `out` is their closure, each literal once
-    /// and in no order of note, and what it held before is gone. Else `out` stays.
+    /// and in no particular order, and what it held before is gone. Else `out` stays.
     pub fn closure(
         &mut self,
         alloc: Global,

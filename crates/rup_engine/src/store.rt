@@ -24,8 +24,9 @@ pub struct Occurrence {
 }
 
 /// The live rows by slot, the slot of each number, the occurrences of each literal, and the slots of the rows that propagate,
-/// or are falsified, while no literal is true. An empty slot held a row that was removed. Occurrences of removed rows stay for
-/// a while: `stale` counts them by literal, and `removed` the rows that were removed since `tight` was thinned.
+/// or are falsified, while no literal is true. An empty slot held a row that was removed, or was made for a row that couldn't
+/// be added. Occurrences of such rows stay for a while: `stale` counts those of removed rows by literal, and `removed` the
+/// rows that were removed since `tight` was thinned.
 #[derive(Drop)]
 pub struct Store {
     pub slots: Vec<Option<Slot>>,

@@ -11,7 +11,7 @@ no_pair = record { count = 0; worst = 0 }
 abbrev pub one_more : Tally → ℕ → Tally
 one_more tally rank = record { count = tally.count + 1; worst = max tally.worst rank }
 
--- it has a free place, or a worse one than of this rank
+-- it has fewer pairs than places, or its worst pair is ranked lower than this rank
 abbrev pub wants : Tally → ℕ → ℕ → Bool
 wants tally places rank = nat_lt tally.count places || nat_lt rank tally.worst
 
@@ -43,7 +43,7 @@ pub record AreTallied (lists : Lists) (m : List ℕ) (residents hospitals : List
 abbrev pub IsClear : List Tally → Type 0
 IsClear table = (k : ℕ) → slice_index_or table k no_pair ≡ no_pair
 
--- by the tables: both of p want it
+-- by the tables, the resident and the hospital of p both want it
 abbrev pub both_want : Lists → List Tally → List Tally → ℕ → Bool
 both_want lists residents hospitals p =
     wants (slice_index_or residents (resident_of lists p) no_pair) 1 (rank_by_resident lists p)

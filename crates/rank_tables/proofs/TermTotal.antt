@@ -8,7 +8,7 @@ use Rattle.rank_tables.specs.declared.terms.Ranked.{Ranked}
 use Rattle.rank_tables.specs.declared.terms.Side.{Side}
 use Rattle.rank_tables.specs.declared.terms.Side.TheVariants.{Resident, Hospital}
 use Rattle.rank_tables.specs.Numbers.{below, numbers_to, is_in}
-use Rattle.rank_tables.specs.Instance.{Lists, capacity_of, pair_at, pair_count, pairs_as_listed, pairs_of_hospital, pairs_of_resident, rank_by_hospital, rank_by_resident}
+use Rattle.rank_tables.specs.Instance.{Lists, pair_at, pair_count, pairs_as_listed, pairs_of_hospital, pairs_of_resident, rank_by_hospital, rank_by_resident}
 use Rattle.rank_tables.specs.WellFormed.{IsWellFormed}
 use Rattle.rank_tables.specs.Tables.{IsPairNo, entry_of}
 use Rattle.rank_tables.specs.Terms.{has_post, has_term, is_as_good_for_hospital, is_as_good_for_resident, model_terms}

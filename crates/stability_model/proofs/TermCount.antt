@@ -1,11 +1,11 @@
 -- The terms that an instance counts are those of the rows.
-use Rattle.std.proofs.Common.{◌≡◌, ℕ, ◌+◌, Bool, true, false, ◌&&◌, ◌||◌, List, [], ◌∷◌, ◌++◌, ◌==◌, nat_le, nat_lt, if◌then◌else◌, filter, map, sum_by, count_by, length, refl, sym, ap, ◌∙◌, arith}
+use Rattle.std.proofs.Common.{◌≡◌, ℕ, ◌+◌, Bool, true, false, ◌&&◌, ◌||◌, List, [], ◌∷◌, ◌++◌, ◌==◌, nat_lt, if◌then◌else◌, filter, map, sum_by, count_by, length, refl, sym, ap, ◌∙◌, arith}
 use Rattle.std.proofs.lemmas.Bool.{lt-ltb}
 use Rattle.std.proofs.lemmas.List.{length-map}
 use Rattle.std.proofs.lemmas.List.Sums.{length-filter, sum_by-append, sum_by-cons}
 use Rattle.hrt_base.specs.declared.literal.Term.{Term}
 use Rattle.rank_tables.specs.Numbers.{below, numbers_to}
-use Rattle.rank_tables.specs.Instance.{Lists, capacity_of, pair_at, pair_count, pairs_of_hospital, pairs_of_resident, rank_by_hospital, rank_by_resident}
+use Rattle.rank_tables.specs.Instance.{Lists, capacity_of, pair_at, pair_count, pairs_of_hospital, pairs_of_resident}
 use Rattle.rank_tables.specs.Terms.{has_post, has_term, is_as_good_for_hospital, is_as_good_for_resident, model_terms}
 use Rattle.stability_model.specs.Model.{at_most, has_any, hospital_rows, pair_row, resident_rows, stability_coef, term_count, written_rows}
 use Rattle.rank_tables.proofs.Numbers.{sum_by-filter, sum_by_same}

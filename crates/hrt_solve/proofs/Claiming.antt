@@ -18,7 +18,7 @@ use Rattle.proof_lines.specs.declared.line.Claim.{Claim}
 use Rattle.proof_rules.specs.States.{live_rows}
 use Rattle.proof_rules.specs.Claims.{HasStronger, IsReached, IsUnpassed, Shows, at_least_row}
 use Rattle.proof_rules.specs.Texts.{IsValidText}
-use Rattle.proof_rules.specs.Told.{held_by}
+use Rattle.proof_rules.specs.Told.{AreTrueNotes, held_by}
 use Rattle.proof_rules.specs.Held.{Held}
 use Rattle.proof_rules.proofs.FarBounds.{free-follows}
 use Rattle.derivation.specs.Derived.{Derived, IsConcludedValid, StandsFor, StaysValid}
@@ -113,6 +113,7 @@ pub proof_made : (lists : Lists) (n : ℕ) (id : Option RowNo) (claim said : Cla
     IsConcludedValid old new said → IsProof lists new.pending claim 0
 proof_made lists n id claim said first old new is gauged stands before end after valid = record {
   valid = subst (λ (c : Claim). IsValidText (formula lists) new.pending c) is (subst (λ (l : Lists). IsValidText (formula l) new.pending said) gauged.lists_are (valid [] (before [] stands)));
+  notes_true = subst (λ (l : Lists). AreTrueNotes l new.pending) (ap (λ (d : Derived). d.lists) end ∙ gauged.lists_are) (after [] (before [] stands)).notes_true;
   learned_are =
       ap (λ (l : Lists). (held_by l new.pending).learn_notes) (sym (ap (λ (d : Derived). d.lists) end ∙ gauged.lists_are))
       ∙ ap (λ (h : Held). h.learn_notes) (after [] (before [] stands)).tells.held_is

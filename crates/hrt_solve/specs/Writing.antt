@@ -12,7 +12,7 @@ use Rattle.hrt_base.specs.Calls.{SentFront}
 use Rattle.opb_text.specs.Spelling.{model_text}
 use Rattle.proof_lines.specs.declared.line.Claim.{Claim}
 use Rattle.proof_rules.specs.Texts.{IsValidText}
-use Rattle.proof_rules.specs.Told.{held_by}
+use Rattle.proof_rules.specs.Told.{AreTrueNotes, held_by}
 use Rattle.promotion_heuristic.specs.Promotion.{promotion}
 use Rattle.hrt_solve.specs.declared.ends.BoundEnd.{BoundEnd}
 use Rattle.hrt_solve.specs.declared.ends.SolveEnd.{SolveEnd}
@@ -43,9 +43,10 @@ SentInPart told lists text old new = SentFront told ModelPort (model_text lists)
 
 -- ---- proofs
 
--- the text is a valid proof of the model with this claim, and says of so many rows that they were learned
+-- the text is a valid proof of the model with this claim, its notes are true, and it says of so many rows that they were learned
 pub record IsProof (lists : Lists) (text : List ℕ) (claim : Claim) (learned : ℕ) : Type 0 where
   pub valid : IsValidText (formula lists) text claim
+  pub notes_true : AreTrueNotes lists text
   pub learned_are : (held_by lists text).learn_notes ≡ learned
 
 -- the model was written, and a proof of it

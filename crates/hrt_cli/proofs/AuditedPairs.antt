@@ -26,12 +26,12 @@ use Rattle.hrt_cli.specs.declared.answer.Answer.{Answer}
 use Rattle.hrt_cli.specs.declared.status.Status.{Status}
 use Rattle.hrt_cli.specs.declared.status.Status.TheVariants.{Done, AuditNo}
 use Rattle.hrt_cli.specs.declared.stop.Ended.{Ended}
-use Rattle.hrt_cli.specs.Answers.{Explains, IsAnswer, IsAnswered, is_on_files}
+use Rattle.hrt_cli.specs.Answers.{Explains, IsAnswer, IsAnswered, is_verdict_of}
 use Rattle.hrt_cli.specs.Reports.{NamesDeclared}
 use Rattle.hrt_cli.specs.Requests.{audit}
 use Rattle.hrt_cli.specs.Verdicts.{ComesTo, Verdict, audit_verdict, audited, on_file, on_lists, on_pairs, rejected}
-use Rattle.hrt_cli.specs.Statuses.{audit_status}
-use Rattle.hrt_cli.proofs.ReadOut.{passed_as, reads_one, reads_two, rejection_on_files, then_only_read}
+use Rattle.hrt_cli.specs.Statuses.{audit_status, status_of}
+use Rattle.hrt_cli.proofs.ReadOut.{passed_as, reads_one, reads_two, then_only_read}
 
 -- ---- whom an audit names
 
@@ -78,9 +78,9 @@ are_pairs_of lists pairs all distinct = record {
 
 -- ---- answers
 
-status_on_files : (b : Bool) → IsTrue (is_on_files (cond b Done AuditNo))
-status_on_files true = refl
-status_on_files false = refl
+audit_suits : (i q : List ℕ) (b : Bool) → IsTrue (is_verdict_of (Some (audit i q)) (cond b Done AuditNo))
+audit_suits i q true = refl
+audit_suits i q false = refl
 
 -- the verdict on the pairs of an instance that is taken
 audit_due : (told : Type 0) (i q : List ℕ) (lists : Lists) (bytes : List ℕ) (verdict : Verdict) (old mid : World) → IsLoaded told i limit.Pairs lists old mid → told
@@ -95,7 +95,7 @@ pub audit_answered : (told : Type 0) (i q : List ℕ) (lists : Lists) (pairs : L
     → IsLoaded told i limit.Pairs lists old mid → ArePairsLoaded told q lists pairs mid new → IsAnswer (audited lists pairs) answer → IsAnswered told (Some (audit i q)) answer old new
 audit_answered told i q lists pairs answer old mid new start loaded read answered = record {
   only_read = then_only_read told old mid new loaded.only_read read.only_read;
-  on_files = subst (λ (s : Status). IsTrue (is_on_files s)) (sym answered.status) (status_on_files (is_weakly_stable lists pairs));
+  suits = subst (λ (s : Status). IsTrue (is_verdict_of (Some (audit i q)) s)) (sym answered.status) (audit_suits i q (is_weakly_stable lists pairs));
   due = λ t.
       let listed = read.spelled t in (
         audited lists pairs,
@@ -106,10 +106,10 @@ audit_answered told i q lists pairs answer old mid new start loaded read answere
 }
 
 pub pairs_rejected : (told : Type 0) (i q : List ℕ) (lists : Lists) (rejection : Rejection) (answer : Answer) (old mid new : World) → AtStart told old
-    → IsLoaded told i limit.Pairs lists old mid → ArePairsRejected told q lists rejection mid new → IsAnswer (rejected rejection) answer → IsAnswered told (Some (audit i q)) answer old new
-pairs_rejected told i q lists rejection answer old mid new start loaded read answered = record {
+    → IsLoaded told i limit.Pairs lists old mid → ArePairsRejected told q lists rejection mid new → IsTrue (is_verdict_of (Some (audit i q)) (status_of (rejected rejection))) → IsAnswer (rejected rejection) answer → IsAnswered told (Some (audit i q)) answer old new
+pairs_rejected told i q lists rejection answer old mid new start loaded read suits answered = record {
   only_read = then_only_read told old mid new loaded.only_read read.only_read;
-  on_files = subst (λ (s : Status). IsTrue (is_on_files s)) (sym answered.status) (rejection_on_files rejection);
+  suits = subst (λ (s : Status). IsTrue (is_verdict_of (Some (audit i q)) s)) (sym answered.status) suits;
   due = λ t.
       let listed = read.due t in (
         rejected rejection,
@@ -121,10 +121,10 @@ pairs_rejected told i q lists rejection answer old mid new start loaded read ans
 }
 
 pub instance_rejected : (told : Type 0) (i q : List ℕ) (rejection : Rejection) (answer : Answer) (old new : World) → AtStart told old
-    → IsRejected told i limit.Pairs rejection old new → IsAnswer (rejected rejection) answer → IsAnswered told (Some (audit i q)) answer old new
-instance_rejected told i q rejection answer old new start read answered = record {
+    → IsRejected told i limit.Pairs rejection old new → IsTrue (is_verdict_of (Some (audit i q)) (status_of (rejected rejection))) → IsAnswer (rejected rejection) answer → IsAnswered told (Some (audit i q)) answer old new
+instance_rejected told i q rejection answer old new start read suits answered = record {
   only_read = read.only_read;
-  on_files = subst (λ (s : Status). IsTrue (is_on_files s)) (sym answered.status) (rejection_on_files rejection);
+  suits = subst (λ (s : Status). IsTrue (is_verdict_of (Some (audit i q)) s)) (sym answered.status) suits;
   due = λ t.
       let text = read.due t in
       let is : ComesTo (Some (audit i q)) old.content.file (rejected rejection) =
@@ -140,8 +140,8 @@ pairs_answered told i q lists pairs (Err why) old mid new start loaded read answ
 pairs_explained : (told : Type 0) (i q : List ℕ) (lists : Lists) (stop : Stop) (answer : Answer) (old mid new : World) → AtStart told old → IsLoaded told i limit.Pairs lists old mid
     → StopsLoadingPairs told q lists stop mid new → Explains stop answer → IsAnswered told (Some (audit i q)) answer old new
 pairs_explained told i q lists (Refused kind line) answer old mid new start loaded stops tells = absurd stops
-pairs_explained told i q lists (Exceeded what) answer old mid new start loaded stops tells = pairs_rejected told i q lists (exceeded what) answer old mid new start loaded stops tells
-pairs_explained told i q lists (PairsRefused kind line) answer old mid new start loaded stops tells = pairs_rejected told i q lists _ answer old mid new start loaded stops tells
+pairs_explained told i q lists (Exceeded what) answer old mid new start loaded stops tells = pairs_rejected told i q lists (exceeded what) answer old mid new start loaded stops refl tells
+pairs_explained told i q lists (PairsRefused kind line) answer old mid new start loaded stops tells = pairs_rejected told i q lists _ answer old mid new start loaded stops refl tells
 pairs_explained told i q lists (ModelRefused kind line) answer old mid new start loaded stops tells = absurd stops
 pairs_explained told i q lists (ProofRefused refusal) answer old mid new start loaded stops tells = absurd stops
 pairs_explained told i q lists ReadFault answer old mid new start loaded stops tells = absurd tells

@@ -1,4 +1,5 @@
 -- What the end of a run says of the code that it answers.
+use Rattle.std.specs.Prelude.{is_some}
 use Rattle.std.proofs.Common.{◌≡◌, ◌⊎◌, ℕ, zero, suc, Bool, true, false, ◌==◌, ◌||◌, bytes_eq, List, [], ◌∷◌, take, Option, Some, None, Result, Ok, Err, length, refl, sym, ◌∙◌, ap, inl, inr, option_map, cond, subst}
 use Rattle.hrt_base.specs.declared.port.Port.{Port}
 use Rattle.hrt_base.specs.declared.port.Port.TheVariants.{Report}
@@ -18,7 +19,7 @@ use Rattle.hrt_cli.specs.Answers.{IsCutShort, LeavesFronts, SendsDue, SendsNothi
 use Rattle.hrt_cli.specs.Outputs.{Output, SendsAll, files_after, is_output_name, model_outputs, outputs_of, proof_outputs}
 use Rattle.hrt_cli.specs.Reports.{IsReport}
 use Rattle.hrt_cli.specs.Requests.{Request, solve, audit, model, verify, check, bound, quick}
-use Rattle.hrt_cli.specs.Runs.{EndsAs, IsDecided, IsDue, IsReported, Reported, KeepsFiles, KeepsOthers, PrintsBest, has_report, is_code, keeps_files}
+use Rattle.hrt_cli.specs.Runs.{EndsAs, IsDecided, IsDue, IsReported, Reported, KeepsFiles, KeepsOthers, PrintsBest, has_report, is_code_of, keeps_files}
 use Rattle.hrt_cli.specs.Statuses.{code_of, status_of}
 use Rattle.hrt_cli.specs.Verdicts.{ComesTo, Files, Verdict, misused, rejected, solved, audited, modeled, verified, checked, bounded, matched, due as due_for, solve_verdict}
 use Rattle.hrt_cli.proofs.NamedOutputs.{not_stored}
@@ -339,18 +340,22 @@ others_kept told request AuditNo old new ends t name e = kept_reported request A
 others_kept told request PairsRefused old new ends t name e = kept_reported request PairsRefused old new (ends.reported t) name e
 others_kept told request Bounded old new ends t name e = kept_reported request Bounded old new (ends.reported t) name e
 
-pub known : (status : Status) → is_code (code_of status) ≡ true
-known Done = refl
-known Misused = refl
-known InstanceRefused = refl
-known ReadFault = refl
-known WriteFault = refl
-known NoMemory = refl
-known LimitExceeded = refl
-known ProofRefused = refl
-known AuditNo = refl
-known PairsRefused = refl
-known Bounded = refl
+asked : (request : Option Request) → (request ≡ None → ⊥) → is_some request ≡ true
+asked None h = absurd (h refl)
+asked (Some request) h = refl
+
+pub known : (told : Type 0) (request : Option Request) (status : Status) (old new : World) → EndsAs told request status old new → is_code_of request (code_of status) ≡ true
+known told request Done old new ends = ends.suits
+known told request Misused old new ends = ends.suits
+known told request InstanceRefused old new ends = ends.suits
+known told request ReadFault old new ends = asked request ends.understood
+known told request WriteFault old new ends = refl
+known told request NoMemory old new ends = asked request ends.understood
+known told request LimitExceeded old new ends = ends.suits
+known told request ProofRefused old new ends = ends.suits
+known told request AuditNo old new ends = ends.suits
+known told request PairsRefused old new ends = ends.suits
+known told request Bounded old new ends = ends.suits
 
 -- ---- the printed pairs
 

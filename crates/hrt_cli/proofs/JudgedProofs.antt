@@ -1,4 +1,5 @@
 -- What the commands that check a proof come to.
+use Rattle.std.specs.Prelude.{is_some}
 use Rattle.std.proofs.Common.{◌≡◌, ℕ, List, [], Option, Some, Result, Ok, Err, IfOk, IfSome, IsTrue, refl, sym, ◌∙◌, ap, subst, inl, inr}
 use Rattle.hrt_base.specs.declared.port.Port.{Port}
 use Rattle.hrt_base.specs.declared.port.Port.TheVariants.{Instance, Model, Proof}
@@ -24,11 +25,11 @@ use Rattle.hrt_inputs.specs.Taken.{formula_in, formula_of_instance, model_of}
 use Rattle.hrt_cli.specs.declared.answer.Answer.{Answer}
 use Rattle.hrt_cli.specs.declared.status.Status.{Status}
 use Rattle.hrt_cli.specs.declared.stop.Ended.{Ended}
-use Rattle.hrt_cli.specs.Answers.{Explains, IsAnswer, IsAnswered, is_on_files}
+use Rattle.hrt_cli.specs.Answers.{Explains, IsAnswer, IsAnswered, is_verdict_of, judges_proof}
 use Rattle.hrt_cli.specs.Requests.{Request, check, verify}
 use Rattle.hrt_cli.specs.Verdicts.{ComesTo, Files, OnFiles, OnFormula, ProofComesTo, Verdict, checked, on_verdict, rejected, verified}
 use Rattle.hrt_cli.specs.Statuses.{status_of}
-use Rattle.hrt_cli.proofs.ReadOut.{passed_as, reads_one, reads_two, rejection_on_files, then_only_read}
+use Rattle.hrt_cli.proofs.ReadOut.{passed_as, reads_one, reads_two, then_only_read}
 
 -- ---- a command by its two files
 
@@ -40,7 +41,9 @@ record Task : Type 0 where
   proof : List ℕ
   read : List ℕ → Result Formula Rejection
   done : Claim → Verdict
-  is_done : (claim : Claim) → IsTrue (is_on_files (status_of (done claim)))
+  is_done : (claim : Claim) → IsTrue (is_verdict_of request (status_of (done claim)))
+  asks : IsTrue (is_some request)
+  judges : IsTrue (judges_proof request)
   comes_to : (files : Files) (verdict : Verdict) → OnFiles done read (files input) (files proof) verdict → ComesTo request files verdict
 
 abbrev verifying : List ℕ → List ℕ → Task
@@ -52,6 +55,8 @@ verifying i p = record {
   read = formula_of_instance;
   done = verified;
   is_done = λ claim. refl;
+  asks = refl;
+  judges = refl;
   comes_to = λ files verdict on. on;
 }
 
@@ -64,6 +69,8 @@ checking m p = record {
   read = formula_in;
   done = checked;
   is_done = λ claim. refl;
+  asks = refl;
+  judges = refl;
   comes_to = λ files verdict on. on;
 }
 
@@ -82,16 +89,16 @@ task_due told task f bytes verdict old mid read t file comes =
     subst (λ (r : Result Formula Rejection). OnFormula task.done r (old.content.file task.proof) verdict) (sym text.2) (bytes, same, comes) in
     task.comes_to old.content.file verdict (text.0, text.1, on)
 
-verdict_on_files : (task : Task) (judged : text.Verdict) → IsTrue (is_on_files (status_of (on_verdict task.done judged)))
-verdict_on_files task (text.Accepted claim) = task.is_done claim
-verdict_on_files task (text.Refused r) = refl
-verdict_on_files task text.Truncated = refl
+verdict_suits : (task : Task) (judged : text.Verdict) → IsTrue (is_verdict_of task.request (status_of (on_verdict task.done judged)))
+verdict_suits task (text.Accepted claim) = task.is_done claim
+verdict_suits task (text.Refused r) = task.judges
+verdict_suits task text.Truncated = task.judges
 
 task_judged : (told : Type 0) (task : Task) (f : Formula) (judged : text.Verdict) (answer : Answer) (old mid new : World) → AtStart told old → IsReadFor told task f old mid
     → IsProofJudged told task.proof f judged mid new → IsAnswer (on_verdict task.done judged) answer → IsAnswered told task.request answer old new
 task_judged told task f judged answer old mid new start read proof answered = record {
   only_read = then_only_read told old mid new read.only_read proof.only_read;
-  on_files = subst (λ (s : Status). IsTrue (is_on_files s)) (sym answered.status) (verdict_on_files task judged);
+  suits = subst (λ (s : Status). IsTrue (is_verdict_of task.request s)) (sym answered.status) (verdict_suits task judged);
   due = λ t.
       let text = proof.judged t in (
         on_verdict task.done judged,
@@ -105,7 +112,7 @@ task_too_long : (told : Type 0) (task : Task) (f : Formula) (answer : Answer) (o
     → IsTooLong told Proof task.proof (most limit.ProofBytes) mid new → IsAnswer (rejected (exceeded limit.ProofBytes)) answer → IsAnswered told task.request answer old new
 task_too_long told task f answer old mid new start read long answered = record {
   only_read = then_only_read told old mid new read.only_read long.only_read;
-  on_files = subst (λ (s : Status). IsTrue (is_on_files s)) (sym answered.status) refl;
+  suits = subst (λ (s : Status). IsTrue (is_verdict_of task.request s)) (sym answered.status) task.asks;
   due = λ t.
       let text = long.file t in (
         rejected (exceeded limit.ProofBytes),
@@ -163,10 +170,10 @@ verify_accepted told i p lists claim r old mid new start loaded judged answered 
     proof_accepted told (verifying i p) (formula lists) claim r old mid new start (loaded_read told i lists old mid loaded) judged answered
 
 verify_rejected : (told : Type 0) (i p : List ℕ) (rejection : Rejection) (answer : Answer) (old new : World) → AtStart told old → IsRejected told i limit.Pairs rejection old new
-    → IsAnswer (rejected rejection) answer → IsAnswered told (Some (verify i p)) answer old new
-verify_rejected told i p rejection answer old new start read answered = record {
+    → IsTrue (is_verdict_of (Some (verify i p)) (status_of (rejected rejection))) → IsAnswer (rejected rejection) answer → IsAnswered told (Some (verify i p)) answer old new
+verify_rejected told i p rejection answer old new start read suits answered = record {
   only_read = read.only_read;
-  on_files = subst (λ (s : Status). IsTrue (is_on_files s)) (sym answered.status) (rejection_on_files rejection);
+  suits = subst (λ (s : Status). IsTrue (is_verdict_of (Some (verify i p)) s)) (sym answered.status) suits;
   due = λ t.
       let text = read.due t in
       let on : OnFormula verified (formula_of_instance text.0) (old.content.file p) (rejected rejection) =
@@ -180,8 +187,8 @@ verify_rejected told i p rejection answer old new start read answered = record {
 
 instance_explained : (told : Type 0) (i p : List ℕ) (stop : Stop) (answer : Answer) (old new : World) → AtStart told old → StopsLoading told i limit.Pairs stop old new → Explains stop answer
     → IsAnswered told (Some (verify i p)) answer old new
-instance_explained told i p (Refused kind line) answer old new start stops tells = verify_rejected told i p _ answer old new start stops tells
-instance_explained told i p (Exceeded what) answer old new start stops tells = verify_rejected told i p (exceeded what) answer old new start stops tells
+instance_explained told i p (Refused kind line) answer old new start stops tells = verify_rejected told i p _ answer old new start stops refl tells
+instance_explained told i p (Exceeded what) answer old new start stops tells = verify_rejected told i p (exceeded what) answer old new start stops refl tells
 instance_explained told i p (PairsRefused kind line) answer old new start stops tells = absurd stops
 instance_explained told i p (ModelRefused kind line) answer old new start stops tells = absurd stops
 instance_explained told i p (ProofRefused refusal) answer old new start stops tells = absurd stops

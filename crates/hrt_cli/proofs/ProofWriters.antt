@@ -21,7 +21,7 @@ use Rattle.hrt_cli.specs.declared.answer.Answer.{Answer}
 use Rattle.hrt_cli.specs.declared.status.Status.TheVariants as status
 use Rattle.hrt_cli.specs.declared.stop.Ended.{Ended}
 use Rattle.hrt_cli.specs.declared.stop.Ended.TheVariants as ended
-use Rattle.hrt_cli.specs.Answers.{EndsEarly, HasOutputs, IsAnswer, IsWorked, LeavesFronts, is_on_files}
+use Rattle.hrt_cli.specs.Answers.{EndsEarly, HasOutputs, IsAnswer, IsWorked, LeavesFronts, is_verdict_of}
 use Rattle.hrt_cli.specs.Outputs.{Output, both, outputs_of}
 use Rattle.hrt_cli.specs.Reports.{count_line, end_lines, found_lines, last_line, line, pair_line}
 use Rattle.hrt_cli.specs.Requests.{Request, bound, quick}
@@ -40,7 +40,7 @@ pub record Prover : Type 0 where
   pub proof : List ℕ
   pub claim : Lists → ℕ → Claim
   pub done : Lists → ℕ → ℕ → List ℕ → Verdict
-  pub is_done : (lists : Lists) (deleted top : ℕ) (text : List ℕ) → IsTrue (is_on_files (status_of (done lists deleted top text)))
+  pub is_done : (lists : Lists) (deleted top : ℕ) (text : List ℕ) → IsTrue (is_verdict_of request (status_of (done lists deleted top text)))
   pub comes_to : (files : Files) (verdict : Verdict) → OnInstance (λ lists v. ProofDue (claim lists) (done lists) lists v) (files instance) verdict → ComesTo request files verdict
   pub outputs : (lists : Lists) (deleted top : ℕ) (text : List ℕ) → outputs_of request (done lists deleted top text) ≡ both name proof lists text
   pub has_outputs : (files : Files) → IsTaken (files instance) → HasOutputs request files
@@ -59,9 +59,9 @@ bounding i m p = record {
   has_outputs = λ files taken. taken;
 }
 
-pub either_on_files : (b : Bool) → IsTrue (is_on_files (cond b status.Done status.Bounded))
-either_on_files true = refl
-either_on_files false = refl
+pub match_suits : (i m p : List ℕ) (b : Bool) → IsTrue (is_verdict_of (Some (quick i m p)) (cond b status.Done status.Bounded))
+match_suits i m p true = refl
+match_suits i m p false = refl
 
 abbrev pub matching : List ℕ → List ℕ → List ℕ → Prover
 matching i m p = record {
@@ -71,7 +71,7 @@ matching i m p = record {
   proof = p;
   claim = first_claim;
   done = matched;
-  is_done = λ lists deleted top text. either_on_files (length (promotion lists) == top);
+  is_done = λ lists deleted top text. match_suits i m p (length (promotion lists) == top);
   comes_to = λ files verdict on. on;
   outputs = λ lists deleted top text. refl;
   has_outputs = λ files taken. taken;
@@ -88,6 +88,8 @@ bound_writer i m p = record {
   no_outputs = λ rejection. refl;
   refuses = λ files bytes rejection file is. refused_on BoundDue files i bytes rejection file is;
   has_outputs = λ files taken. taken;
+  asks = refl;
+  reads = refl;
 }
 
 abbrev pub quick_writer : List ℕ → List ℕ → List ℕ → Writer
@@ -97,6 +99,8 @@ quick_writer i m p = record {
   no_outputs = λ rejection. refl;
   refuses = λ files bytes rejection file is. refused_on MatchDue files i bytes rejection file is;
   has_outputs = λ files taken. taken;
+  asks = refl;
+  reads = refl;
 }
 
 -- ---- what is answered

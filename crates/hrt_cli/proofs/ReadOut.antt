@@ -1,5 +1,5 @@
 -- What was read to its end, by one command or by two reads.
-use Rattle.std.proofs.Common.{◌≡◌, ◌⊎◌, ℕ, List, [], refl, sym, ◌∙◌, ap, subst, arith, inl, inr, IsTrue}
+use Rattle.std.proofs.Common.{◌≡◌, ◌⊎◌, ℕ, List, [], sym, ◌∙◌, ap, subst, arith, inl, inr}
 use Rattle.std.proofs.lemmas.Bool.{cases_eq}
 use Rattle.hrt_base.specs.declared.port.Port.{Port}
 use Rattle.hrt_base.specs.declared.host.Begun.{Begun}
@@ -9,10 +9,9 @@ use Rattle.hrt_base.specs.World.{World, Content, put, port_no, with_rest}
 use Rattle.hrt_base.proofs.Pieces.{port_no-injective, put_here}
 use Rattle.hrt_inputs.specs.declared.limit.Limit.{Limit}
 use Rattle.hrt_inputs.specs.Inputs.{OnlyRead, but_for_rest}
-use Rattle.hrt_inputs.specs.Rejections.{Rejection, exceeded, model_refused, pairs_refused, proof_refused, refused, truncated}
-use Rattle.hrt_cli.specs.Answers.{IsReadOut, PassedAt, is_on_files}
+use Rattle.hrt_inputs.specs.Rejections.{Rejection, exceeded}
+use Rattle.hrt_cli.specs.Answers.{IsReadOut, PassedAt}
 use Rattle.hrt_cli.specs.Verdicts.{Verdict, rejected}
-use Rattle.hrt_cli.specs.Statuses.{status_of}
 use Rattle.hrt_cli.proofs.Runs.{put_elsewhere, reads_nothing}
 
 -- one port alone was begun for reading, and was read to its end or past its limit
@@ -49,15 +48,6 @@ then_only_read told w v u first second = record {
   writers = λ p. (λ x. (first.writers p).0 ((second.writers p).0 x), λ x. (second.writers p).1 ((first.writers p).1 x));
   content = λ t. second.content t ∙ ap (λ (c : Content). but_for_rest c u.content) (first.content t);
 }
-
--- a file that isn't taken is told of
-pub rejection_on_files : (rejection : Rejection) → IsTrue (is_on_files (status_of (rejected rejection)))
-rejection_on_files (refused r) = refl
-rejection_on_files (exceeded what) = refl
-rejection_on_files (pairs_refused r) = refl
-rejection_on_files (model_refused kind line) = refl
-rejection_on_files (proof_refused r) = refl
-rejection_on_files truncated = refl
 
 -- a limit that a file passed is the one that is told
 pub passed_as : (rejection : Rejection) (what : Limit) (l : List ℕ) → (l ≡ []) ⊎ (rejection ≡ exceeded what) → (l ≡ []) ⊎ (rejected rejection ≡ rejected (exceeded what))

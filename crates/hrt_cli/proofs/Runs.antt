@@ -1,4 +1,5 @@
 -- From what a run did to how it ended.
+use Rattle.std.specs.Prelude.{Some, is_none, true}
 use Rattle.std.proofs.Common.{◌≡◌, ℕ, List, [], ◌++◌, ◌⊎◌, take, Option, None, refl, sym, ◌∙◌, ap, subst, arith, inl, inr, IsTrue, codes}
 use Rattle.std.proofs.lemmas.Bool.{cases_eq}
 use Rattle.std.proofs.lemmas.Bool.Decides.{nat_tests}
@@ -16,7 +17,7 @@ use Rattle.hrt_cli.specs.declared.status.Status.{Status}
 use Rattle.hrt_cli.specs.declared.status.Status.TheVariants.{Done, Misused, InstanceRefused, ReadFault, WriteFault, NoMemory, LimitExceeded, ProofRefused, AuditNo, Bounded, PairsRefused}
 use Rattle.hrt_cli.specs.declared.stop.Ended.{Ended}
 use Rattle.hrt_cli.specs.declared.stop.Ended.TheVariants as ended
-use Rattle.hrt_cli.specs.Answers.{CutShort, EndsEarly, GivesUp, IsAnswered, IsReadOut, IsWorked, LeavesFronts, PassedAt, SendsNothing, is_on_files}
+use Rattle.hrt_cli.specs.Answers.{CutShort, EndsEarly, GivesUp, IsAnswered, IsReadOut, IsWorked, LeavesFronts, PassedAt, SendsNothing, is_verdict_of}
 use Rattle.hrt_cli.specs.Outputs.{Output, SendsAll, files_after, outputs_of, text_on}
 use Rattle.hrt_cli.specs.Reports.{IsReport, line}
 use Rattle.hrt_cli.specs.Requests.{Request}
@@ -97,7 +98,7 @@ read_worked told request answer old mid none start answered =
       later = omega (arith, read.write_faults);
       open_report = (read.writers Report).1 (report_open told old start);
       others = λ p writing. writes_report told old start p ((read.writers p).0 writing);
-      on_files = answered.on_files;
+      suits = answered.suits;
       due = λ t. let due = answered.due t in record {
         verdict = due.0;
         due = due.1;
@@ -129,27 +130,32 @@ read_ends told request ended.NoMemory old mid start up = leaves_nothing told req
 
 -- ---- a report that was sent whole
 
-reported_of : (told : Type 0) (request : Option Request) (status : Status) (old new : World) → (status ≡ Misused → ⊥) → (request ≡ None → ⊥)
+reported_of : (told : Type 0) (request : Option Request) (status : Status) (old new : World) → (status ≡ Misused → ⊥) → IsTrue (is_verdict_of request status) → (request ≡ None → ⊥)
     → ((port : Port) → new.begun port ≡ Writing → ⊥) → (told → IsReported request status old new) → Reported told request status old new
-reported_of told request status old new other asked closed reported = record {
+reported_of told request status old new other suits asked closed reported = record {
+  suits = suits;
   understood = (λ e. absurd (other e), λ e. absurd (asked e));
   closed = closed;
   reported = reported;
 }
 
-ends_on_files : (told : Type 0) (request : Option Request) (status : Status) (old new : World) → IsTrue (is_on_files status) → (request ≡ None → ⊥)
+none_is : (request : Option Request) → is_none request ≡ true → request ≡ None
+none_is None e = refl
+none_is (Some request) e = absurd (cc)
+
+ends_by_verdict : (told : Type 0) (request : Option Request) (status : Status) (old new : World) → IsTrue (is_verdict_of request status) → (request ≡ None → ⊥)
     → ((port : Port) → new.begun port ≡ Writing → ⊥) → (told → IsReported request status old new) → EndsAs told request status old new
-ends_on_files told request Done old new on asked closed reported = reported_of told request Done old new (λ e. absurd (cc)) asked closed reported
-ends_on_files told request Misused old new on asked closed reported = absurd (cc)
-ends_on_files told request InstanceRefused old new on asked closed reported = reported_of told request InstanceRefused old new (λ e. absurd (cc)) asked closed reported
-ends_on_files told request ReadFault old new on asked closed reported = absurd (cc)
-ends_on_files told request WriteFault old new on asked closed reported = absurd (cc)
-ends_on_files told request NoMemory old new on asked closed reported = absurd (cc)
-ends_on_files told request LimitExceeded old new on asked closed reported = reported_of told request LimitExceeded old new (λ e. absurd (cc)) asked closed reported
-ends_on_files told request ProofRefused old new on asked closed reported = reported_of told request ProofRefused old new (λ e. absurd (cc)) asked closed reported
-ends_on_files told request AuditNo old new on asked closed reported = reported_of told request AuditNo old new (λ e. absurd (cc)) asked closed reported
-ends_on_files told request Bounded old new on asked closed reported = reported_of told request Bounded old new (λ e. absurd (cc)) asked closed reported
-ends_on_files told request PairsRefused old new on asked closed reported = reported_of told request PairsRefused old new (λ e. absurd (cc)) asked closed reported
+ends_by_verdict told request Done old new on asked closed reported = reported_of told request Done old new (λ e. absurd (cc)) on asked closed reported
+ends_by_verdict told request Misused old new on asked closed reported = absurd (asked (none_is request on))
+ends_by_verdict told request InstanceRefused old new on asked closed reported = reported_of told request InstanceRefused old new (λ e. absurd (cc)) on asked closed reported
+ends_by_verdict told request ReadFault old new on asked closed reported = absurd (cc)
+ends_by_verdict told request WriteFault old new on asked closed reported = absurd (cc)
+ends_by_verdict told request NoMemory old new on asked closed reported = absurd (cc)
+ends_by_verdict told request LimitExceeded old new on asked closed reported = reported_of told request LimitExceeded old new (λ e. absurd (cc)) on asked closed reported
+ends_by_verdict told request ProofRefused old new on asked closed reported = reported_of told request ProofRefused old new (λ e. absurd (cc)) on asked closed reported
+ends_by_verdict told request AuditNo old new on asked closed reported = reported_of told request AuditNo old new (λ e. absurd (cc)) on asked closed reported
+ends_by_verdict told request Bounded old new on asked closed reported = reported_of told request Bounded old new (λ e. absurd (cc)) on asked closed reported
+ends_by_verdict told request PairsRefused old new on asked closed reported = reported_of told request PairsRefused old new (λ e. absurd (cc)) on asked closed reported
 
 whole_sends : (told : Type 0) (text : List ℕ) (outputs : List Output) (old mid new : World) → SendsAll outputs old.content mid.content → mid.content.name Report ≡ [] → SentWhole told Report text mid new → told
     → SendsAll outputs old.content new.content
@@ -180,7 +186,7 @@ whole_read_out told text mid new v sent t out p reading = elim (cases_eq (port_n
 pub whole_reported : (told : Type 0) (request : Option Request) (answer : Answer) (old mid new : World) → IsWorked told request answer old mid
     → SentWhole told Report answer.report mid new → (request ≡ None → ⊥) → EndsAs told request answer.status old new
 whole_reported told request answer old mid new worked sent asked =
-    ends_on_files told request answer.status old new worked.on_files asked
+    ends_by_verdict told request answer.status old new worked.suits asked
     (closed_after told answer.report mid new worked.others sent)
     (λ t. let due = worked.due t in record {
       verdict = due.verdict;
@@ -239,6 +245,7 @@ pub misused_whole : (told : Type 0) (text : List ℕ) (old new : World) → AtSt
     → Reported told None Misused old new
 misused_whole told text old new start is sent = record {
   understood = (λ e. refl, λ e. refl);
+  suits = refl;
   closed = closed_after told text old new (writes_report told old start) sent;
   reported = λ t. record {
     verdict = misused;

@@ -39,6 +39,8 @@ model_writer i m = record {
   no_outputs = λ rejection. refl;
   refuses = λ files bytes rejection file is. model_due files i m bytes (Err rejection) file is;
   has_outputs = λ files taken. taken;
+  asks = refl;
+  reads = refl;
 }
 
 -- the instance that was loaded is the one whose model is due

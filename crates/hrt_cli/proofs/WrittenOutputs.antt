@@ -1,4 +1,5 @@
 -- What a command that writes outputs comes to, once its instance was loaded.
+use Rattle.std.specs.Prelude.{is_some}
 use Rattle.std.proofs.Common.{◌≡◌, ◌⊎◌, ℕ, List, [], Option, Some, Result, Ok, Err, IfErr, IfOk, IsTrue, refl, sym, ◌∙◌, ap, subst, arith, inl, inr}
 use Rattle.hrt_base.specs.declared.port.Port.{Port}
 use Rattle.hrt_base.specs.declared.port.Port.TheVariants.{Instance, Pairs, Model, Proof, Report, ModelTwo, ProofTwo}
@@ -18,13 +19,13 @@ use Rattle.hrt_cli.specs.declared.answer.Answer.{Answer}
 use Rattle.hrt_cli.specs.declared.status.Status.{Status}
 use Rattle.hrt_cli.specs.declared.stop.Ended.{Ended}
 use Rattle.hrt_cli.specs.declared.stop.Ended.TheVariants as ended
-use Rattle.hrt_cli.specs.Answers.{EndsEarly, EndsFor, Explains, HasOutputs, IsAnswer, IsWorked, LeavesFronts, PassedAt, is_on_files}
+use Rattle.hrt_cli.specs.Answers.{EndsEarly, EndsFor, Explains, HasOutputs, IsAnswer, IsWorked, LeavesFronts, PassedAt, is_verdict_of, reads_instance}
 use Rattle.hrt_cli.specs.Outputs.{Output, files_after, outputs_of}
 use Rattle.hrt_cli.specs.Requests.{Request}
 use Rattle.hrt_cli.specs.Verdicts.{ComesTo, Files, Verdict, misused, rejected}
 use Rattle.hrt_cli.specs.Statuses.{status_of}
 use Rattle.hrt_cli.specs.Writing.{Writes, WritesAll, WritesFronts, WritesNothing}
-use Rattle.hrt_cli.proofs.ReadOut.{passed_as, reads_one, rejection_on_files}
+use Rattle.hrt_cli.proofs.ReadOut.{passed_as, reads_one}
 use Rattle.hrt_cli.proofs.Runs.{file_before, leaves_nothing, name_before, nothing_due, read_ends, report_open, sent_before, writes_report}
 
 -- ---- a command with outputs
@@ -37,6 +38,8 @@ pub record Writer : Type 0 where
   pub refuses : (files : Files) (bytes : List ℕ) (rejection : Rejection) → files instance ≡ Some bytes → of_few_terms (within limit.Pairs (lists_in bytes)) ≡ Err rejection
       → ComesTo request files (rejected rejection)
   pub has_outputs : (files : Files) → IsTaken (files instance) → HasOutputs request files
+  pub asks : IsTrue (is_some request)
+  pub reads : IsTrue (reads_instance request)
 
 -- ---- what was read
 
@@ -70,7 +73,7 @@ module _ (told : Type 0) (i : List ℕ) (lists : Lists) (old mid : World) (start
 
   -- each output was written whole
   pub outputs_worked : (request : Option Request) (verdict : Verdict) (answer : Answer) (new : World) → WritesAll told (outputs_of request verdict) mid new → (told → ComesTo request old.content.file verdict)
-      → IsTrue (is_on_files (status_of verdict)) → IsAnswer verdict answer → IsWorked told request answer old new
+      → IsTrue (is_verdict_of request (status_of verdict)) → IsAnswer verdict answer → IsWorked told request answer old new
   outputs_worked request verdict answer new saved due on answered =
       let read = loaded.only_read in
       let writes = saved.writes in
@@ -79,7 +82,7 @@ module _ (told : Type 0) (i : List ℕ) (lists : Lists) (old mid : World) (start
         later = omega (arith, read.write_faults, writes.later);
         open_report = writes.report ∙ ap (λ (f : Port → Begun). f Report) loaded.begun ∙ report_open told old start;
         others = λ p writing. writes_report told old start p ((read.writers p).0 (saved.writers p writing));
-        on_files = subst (λ (s : Status). IsTrue (is_on_files s)) (sym answered.status) on;
+        suits = subst (λ (s : Status). IsTrue (is_verdict_of request s)) (sym answered.status) on;
         due = λ t. record {
           verdict = verdict;
           due = due t;
@@ -140,14 +143,14 @@ module _ (told : Type 0) (i : List ℕ) (lists : Lists) (old mid : World) (start
 -- ---- an instance that isn't taken
 
 instance_rejected : (told : Type 0) (w : Writer) (rejection : Rejection) (answer : Answer) (old new : World) → AtStart told old
-    → IsRejected told w.instance limit.Pairs rejection old new → IsAnswer (rejected rejection) answer → IsWorked told w.request answer old new
-instance_rejected told w rejection answer old new start read answered =
+    → IsRejected told w.instance limit.Pairs rejection old new → IsTrue (is_verdict_of w.request (status_of (rejected rejection))) → IsAnswer (rejected rejection) answer → IsWorked told w.request answer old new
+instance_rejected told w rejection answer old new start read suits answered =
     let only = read.only_read in
     record {
       later = omega (arith, only.write_faults);
       open_report = (only.writers Report).1 (report_open told old start);
       others = λ p writing. writes_report told old start p ((only.writers p).0 writing);
-      on_files = subst (λ (s : Status). IsTrue (is_on_files s)) (sym answered.status) (rejection_on_files rejection);
+      suits = subst (λ (s : Status). IsTrue (is_verdict_of w.request s)) (sym answered.status) suits;
       due = λ t.
           let text = read.due t in
           record {
@@ -162,8 +165,8 @@ instance_rejected told w rejection answer old new start read answered =
     }
 
 explained : (told : Type 0) (w : Writer) (stop : Stop) (answer : Answer) (old new : World) → AtStart told old → StopsLoading told w.instance limit.Pairs stop old new → Explains stop answer → IsWorked told w.request answer old new
-explained told w (Refused kind line) answer old new start stops tells = instance_rejected told w _ answer old new start stops tells
-explained told w (Exceeded what) answer old new start stops tells = instance_rejected told w (exceeded what) answer old new start stops tells
+explained told w (Refused kind line) answer old new start stops tells = instance_rejected told w _ answer old new start stops w.reads tells
+explained told w (Exceeded what) answer old new start stops tells = instance_rejected told w (exceeded what) answer old new start stops w.asks tells
 explained told w (PairsRefused kind line) answer old new start stops tells = absurd stops
 explained told w (ModelRefused kind line) answer old new start stops tells = absurd stops
 explained told w (ProofRefused refusal) answer old new start stops tells = absurd stops

@@ -1,5 +1,5 @@
 -- What a run answers for a verdict.
-use Rattle.std.specs.Prelude.{◌≡◌, ◌⊎◌, ◌≤◌, ℕ, Bool, true, false, IsTrue, List, [], take, Option, Some, None, IfSome}
+use Rattle.std.specs.Prelude.{◌≡◌, ◌⊎◌, ◌≤◌, ℕ, Bool, true, false, is_none, is_some, IsTrue, List, [], take, Option, Some, None, IfSome}
 use Rattle.hrt_base.specs.declared.port.Port.{Port}
 use Rattle.hrt_base.specs.declared.port.Port.TheVariants.{Instance, Pairs, Model, Proof, Report, ModelTwo, ProofTwo}
 use Rattle.hrt_base.specs.declared.host.Begun.TheVariants.{Reading, Writing}
@@ -28,19 +28,63 @@ use Rattle.hrt_cli.specs.Requests.{Request, solve, audit, model, verify, check, 
 use Rattle.hrt_cli.specs.Verdicts.{Verdict, rejected, ComesTo, Files, on_verdict}
 use Rattle.hrt_cli.specs.Statuses.{status_of}
 
--- a status that tells a verdict on the files
-abbrev pub is_on_files : Status → Bool
-is_on_files status.Done = true
-is_on_files status.Misused = false
-is_on_files status.InstanceRefused = true
-is_on_files status.ReadFault = false
-is_on_files status.WriteFault = false
-is_on_files status.NoMemory = false
-is_on_files status.LimitExceeded = true
-is_on_files status.ProofRefused = true
-is_on_files status.AuditNo = true
-is_on_files status.Bounded = true
-is_on_files status.PairsRefused = true
+-- the command reads an instance
+abbrev pub reads_instance : Option Request → Bool
+reads_instance None = false
+reads_instance (Some (solve instance)) = true
+reads_instance (Some (audit instance pairs)) = true
+reads_instance (Some (model instance file)) = true
+reads_instance (Some (verify instance proof)) = true
+reads_instance (Some (check file proof)) = false
+reads_instance (Some (bound instance file proof)) = true
+reads_instance (Some (quick instance file proof)) = true
+
+-- the command judges a proof
+abbrev pub judges_proof : Option Request → Bool
+judges_proof None = false
+judges_proof (Some (solve instance)) = false
+judges_proof (Some (audit instance pairs)) = false
+judges_proof (Some (model instance file)) = false
+judges_proof (Some (verify instance proof)) = true
+judges_proof (Some (check file proof)) = true
+judges_proof (Some (bound instance file proof)) = false
+judges_proof (Some (quick instance file proof)) = false
+
+-- the command audits pairs
+abbrev pub audits_pairs : Option Request → Bool
+audits_pairs None = false
+audits_pairs (Some (solve instance)) = false
+audits_pairs (Some (audit instance pairs)) = true
+audits_pairs (Some (model instance file)) = false
+audits_pairs (Some (verify instance proof)) = false
+audits_pairs (Some (check file proof)) = false
+audits_pairs (Some (bound instance file proof)) = false
+audits_pairs (Some (quick instance file proof)) = false
+
+-- the command prints a matching that may be shorter than the ceiling
+abbrev pub may_be_open : Option Request → Bool
+may_be_open None = false
+may_be_open (Some (solve instance)) = false
+may_be_open (Some (audit instance pairs)) = false
+may_be_open (Some (model instance file)) = false
+may_be_open (Some (verify instance proof)) = false
+may_be_open (Some (check file proof)) = false
+may_be_open (Some (bound instance file proof)) = false
+may_be_open (Some (quick instance file proof)) = true
+
+-- a status that tells a verdict to which these words can come, whatever the files are
+abbrev pub is_verdict_of : Option Request → Status → Bool
+is_verdict_of request status.Done = is_some request
+is_verdict_of request status.Misused = is_none request
+is_verdict_of request status.InstanceRefused = reads_instance request
+is_verdict_of request status.ReadFault = false
+is_verdict_of request status.WriteFault = false
+is_verdict_of request status.NoMemory = false
+is_verdict_of request status.LimitExceeded = is_some request
+is_verdict_of request status.ProofRefused = judges_proof request
+is_verdict_of request status.AuditNo = audits_pairs request
+is_verdict_of request status.Bounded = may_be_open request
+is_verdict_of request status.PairsRefused = audits_pairs request
 
 -- the status and the report of a verdict
 pub record IsAnswer (verdict : Verdict) (answer : Answer) : Type 0 where
@@ -87,7 +131,7 @@ IsReadOut verdict w = (port : Port) → w.begun port ≡ Reading → (w.content.
 -- the words and the files come to this answer, and nothing but reading was done
 pub record IsAnswered (told : Type 0) (request : Option Request) (answer : Answer) (old new : World) : Type 0 where
   pub only_read : OnlyRead told old new
-  pub on_files : IsTrue (is_on_files answer.status)
+  pub suits : IsTrue (is_verdict_of request answer.status)
   pub due : told → (verdict : Verdict) × ComesTo request old.content.file verdict × IsAnswer verdict answer × IsReadOut verdict new
 
 -- a command that only reads was given up before its report
@@ -113,7 +157,7 @@ pub record IsWorked (told : Type 0) (request : Option Request) (answer : Answer)
   pub later : old.write_faults ≤ new.write_faults
   pub open_report : new.begun Report ≡ Writing
   pub others : (p : Port) → new.begun p ≡ Writing → port_no p ≡ port_no Report
-  pub on_files : IsTrue (is_on_files answer.status)
+  pub suits : IsTrue (is_verdict_of request answer.status)
   pub due : told → IsWorkDone request answer old new
 
 -- nothing was sent, and the files are as they were

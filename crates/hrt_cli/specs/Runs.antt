@@ -1,5 +1,5 @@
 -- How a run ends, and what stands after it.
-use Rattle.std.specs.Prelude.{◌≡◌, ◌⊎◌, ◌<◌, ◌↔◌, ℕ, ◌==◌, ◌||◌, Bool, true, false, not, IsTrue, List, ◌++◌, length, codes, Option, Some, None, IfSome, ℤ, pos, ◌≤ℤ◌}
+use Rattle.std.specs.Prelude.{◌≡◌, ◌⊎◌, ◌<◌, ◌↔◌, ℕ, ◌==◌, ◌||◌, Bool, true, false, not, is_none, is_some, if◌then◌else◌, IsTrue, List, ◌++◌, length, codes, Option, Some, None, IfSome, ℤ, pos, ◌≤ℤ◌}
 use Rattle.std.specs.List.Sorted.{IsStrictlyIncreasing}
 use Rattle.hrt_base.specs.declared.port.Port.{Port}
 use Rattle.hrt_base.specs.declared.port.Port.TheVariants.{Model, Proof, Report}
@@ -9,7 +9,7 @@ use Rattle.hrt_base.specs.World.{World, Content}
 use Rattle.hrt_inputs.specs.Taken.{IsTaken}
 use Rattle.hrt_cli.specs.declared.status.Status.{Status}
 use Rattle.hrt_cli.specs.declared.status.Status.TheVariants.{Done, Misused, InstanceRefused, ReadFault, WriteFault, NoMemory, LimitExceeded, ProofRefused, AuditNo, Bounded, PairsRefused}
-use Rattle.hrt_cli.specs.Answers.{CutShort, IsReadOut, LeavesFronts, SendsNothing}
+use Rattle.hrt_cli.specs.Answers.{CutShort, IsReadOut, LeavesFronts, SendsNothing, audits_pairs, is_verdict_of, judges_proof, may_be_open, reads_instance}
 use Rattle.hrt_cli.specs.Outputs.{SendsAll, is_output_name, outputs_of}
 use Rattle.hrt_cli.specs.Reports.{IsReport, audit_report, bound_report, check_report, count_line, line, match_lines, model_report, sizes_report, solve_report}
 use Rattle.hrt_cli.specs.Requests as ask
@@ -40,9 +40,11 @@ pub record IsReported (request : Option Request) (status : Status) (old new : Wo
   pub read_out : IsReadOut verdict new
   pub sends : SendsAll (outputs_of request verdict) old.content new.content
 
--- the report was sent whole, no port is left begun for writing, and the run is misused just where the words ask for nothing
+-- The report was sent whole, and no port is left begun for writing. The run is misused just where the words ask for nothing, and
+-- the status is one that they can come to.
 pub record Reported (told : Type 0) (request : Option Request) (status : Status) (old new : World) : Type 0 where
   pub understood : (status ≡ Misused) ↔ (request ≡ None)
+  pub suits : IsTrue (is_verdict_of request status)
   pub closed : (port : Port) → new.begun port ≡ Writing → ⊥
   pub reported : told → IsReported request status old new
 
@@ -78,9 +80,17 @@ EndsAs told request PairsRefused old new = Reported told request PairsRefused ol
 abbrev pub has_report : ℕ → Bool
 has_report n = not (n == 4 || n == 5 || n == 6)
 
--- a code that some status has
-abbrev pub is_code : ℕ → Bool
-is_code n = n == 0 || n == 2 || n == 3 || n == 4 || n == 5 || n == 6 || n == 7 || n == 8 || n == 9 || n == 10 || n == 12
+-- a code with which a run of these words can end
+abbrev pub is_code_of : Option Request → ℕ → Bool
+is_code_of request n =
+    if n == 0 || n == 7 then is_some request
+    else if n == 2 then is_none request
+    else if n == 3 then reads_instance request
+    else if n == 4 || n == 6 then is_some request
+    else if n == 8 then judges_proof request
+    else if n == 9 || n == 12 then audits_pairs request
+    else if n == 10 then may_be_open request
+    else n == 5
 
 -- the report was sent of what the words and the files come to, and the code is that of this verdict
 pub record IsDecided (request : Option Request) (n : ℕ) (old new : World) : Type 0 where

@@ -6,7 +6,7 @@ ghost use Rattle.hrt_solve.specs.Writing.{SentWhole};
 ghost use Rattle.hrt_cli.specs.Answers.{EndsEarly, IsCutShort, IsWorked, LeavesFronts, SendsNothing};
 ghost use Rattle.hrt_cli.specs.Ports.{ReadsInputs, WritesOutputs};
 ghost use Rattle.hrt_cli.specs.Requests.{asked_by, audit, bound, check, model, quick, request_of, solve, texts_of, verify};
-ghost use Rattle.hrt_cli.specs.Runs.{EndsAs, Finishes, IsComplete, IsDecided, IsDue, KeepsFiles, KeepsOthers, PrintsAudit, PrintsBest, PrintsBound, PrintsClaim, PrintsMet, PrintsOpen, PrintsSizes, WritesModel, has_report, is_code, keeps_files};
+ghost use Rattle.hrt_cli.specs.Runs.{EndsAs, Finishes, IsComplete, IsDecided, IsDue, KeepsFiles, KeepsOthers, PrintsAudit, PrintsBest, PrintsBound, PrintsClaim, PrintsMet, PrintsOpen, PrintsSizes, WritesModel, has_report, is_code_of, keeps_files};
 
 use crate::auditing::audit;
 use crate::checking::check;
@@ -49,7 +49,7 @@ pub fn run<H: Host>(alloc: Global, words: &[String], host: &mut H) -> u8
     ensures outputs { WritesOutputs H.told (request_of (texts_of words.now)) (H.world host.old) (H.world host.new) }
     ensures files { H.told → KeepsOthers (request_of (texts_of words.now)) (H.world host.old).content (H.world host.new).content }
     ensures files_kept { H.told → keeps_files result ≡ true → KeepsFiles (H.world host.old).content (H.world host.new).content }
-    ensures known { is_code result ≡ true }
+    ensures known { is_code_of (request_of (texts_of words.now)) result ≡ true }
 {
     carry_out(alloc, words, host).code()
 }

@@ -19,13 +19,13 @@ pub struct Ended {
     pub host: MemoryHost,
 }
 
-/// A host with the instance `i`, the pairs `q`, and room for a report.
-pub fn host_with(alloc: Global, instance: &[u8], pairs: &[u8]) -> Result<MemoryHost, NoMemory>
+/// A host with the files `i` and `q`, and room for a report.
+pub fn host_with(alloc: Global, first: &[u8], second: &[u8]) -> Result<MemoryHost, NoMemory>
     ensures { IfOk result (λ host. AtStart (Unit {0}) (memory_world host)) }
 {
     let mut host = MemoryHost::new(alloc);
-    host.put_file("i", instance)?;
-    host.put_file("q", pairs)?;
+    host.put_file("i", first)?;
+    host.put_file("q", second)?;
     host.give_room(Port::Report, "", 10_000)?;
     Ok(host)
 }

@@ -1,5 +1,5 @@
 # What the benches share: where the program is, a folder for files, instances in ties, and how a run is measured.
-# To be sourced. Build first: rt check in crates/hrt.
+# To be sourced. Build first: rt run in crates/hrt.
 set -eu
 cd "$(dirname "${BASH_SOURCE[0]}")/.."
 program=$PWD/crates/hrt/out/hrt

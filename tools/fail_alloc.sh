@@ -2,7 +2,7 @@
 # Refuses each request for memory in turn, for each command on the worked instance, until a run makes no more
 # requests, and counts the statuses with which the built program ended. They may be 6, and that of the run without a refusal
 # (0), and no other; and what was reported may be nothing or the whole report. (`rt try --fail-alloc N` does the same for one
-# request before any proof, in some 20 seconds each.) Build first: rt check in crates/hrt. It needs gcc.
+# request before any proof, in some 20 seconds each.) Build first: rt run in crates/hrt. It needs gcc.
 set -eu
 cd "$(dirname "$0")/.."
 program=$PWD/crates/hrt/out/hrt

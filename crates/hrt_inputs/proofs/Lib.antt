@@ -1,4 +1,5 @@
 pub mod FewTerms
+pub mod KeptPorts
 mod Ports
 mod ProofFiles
 pub mod ReadInstances

@@ -32,3 +32,13 @@ pub record IsTooLong (told : Type 0) (port : Port) (name : List ℕ) (limit : �
 -- this port was begun for reading, or none was begun
 pub record BeginsAtMost (port : Port) (old new : World) : Type 0 where
   pub begun : (new.begun ≡ old.begun) ⊎ (new.begun ≡ put port Reading old.begun)
+
+-- it is this port
+abbrev pub IsAt : Port → Port → Type 0
+IsAt port p = p ≡ port
+
+-- of every port but these the name, what is left to read and what was sent are as they were
+pub record KeepsPorts (told : Type 0) (But : Port → Type 0) (old new : World) : Type 0 where
+  pub name : told → (p : Port) → (But p → ⊥) → new.content.name p ≡ old.content.name p
+  pub rest : told → (p : Port) → (But p → ⊥) → new.content.rest p ≡ old.content.rest p
+  pub sent : told → (p : Port) → (But p → ⊥) → new.content.sent p ≡ old.content.sent p

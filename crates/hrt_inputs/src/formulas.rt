@@ -2,7 +2,7 @@
 ghost use Rattle.std.specs.Prelude.{◌≡◌, ◌≤◌, length, IfErr, IfOk, Ok};
 ghost use Rattle.opb_text.specs.Limits.{IsWithinLimits};
 ghost use Rattle.hrt_inputs.specs.declared.limit.Limit.TheVariants.{ModelBytes};
-ghost use Rattle.hrt_inputs.specs.Inputs.{BeginsAtMost};
+ghost use Rattle.hrt_inputs.specs.Inputs.{BeginsAtMost, IsAt, KeepsPorts};
 ghost use Rattle.hrt_inputs.specs.Limits.{most};
 ghost use Rattle.hrt_inputs.specs.Formulas.{IsFormulaRead, StopsModel, StopsModelText};
 ghost use Rattle.hrt_inputs.specs.Taken.{formula_in};
@@ -20,6 +20,7 @@ pub fn load_formula<H: Host>(alloc: Global, host: &mut H, name: &str) -> Result<
     ensures within { IfOk result IsWithinLimits }
     ensures stopped { IfErr result (λ stop. StopsModel H.told name.now stop (H.world host.old) (H.world host.new)) }
     ensures begun { BeginsAtMost Port.Model (H.world host.old) (H.world host.new) }
+    ensures others { KeepsPorts H.told (IsAt Port.Model) (H.world host.old) (H.world host.new) }
 {
     match read_file(
         alloc,

@@ -1,12 +1,13 @@
 // Files that are read whole.
 ghost use Rattle.std.specs.Prelude.{◌≡◌, ◌≤◌, length, IfOk, OnErr, IsErrOf};
 ghost use Rattle.hrt_base.specs.Calls.{Rose};
-ghost use Rattle.hrt_inputs.specs.Inputs.{BeginsAtMost, WasRead, IsTooLong, OnlyRead};
+ghost use Rattle.hrt_inputs.specs.Inputs.{BeginsAtMost, IsAt, IsTooLong, KeepsPorts, OnlyRead, WasRead};
 
 use hrt_base::{Begun, Host, Port, ReadEnd, read_all};
 use std::alloc::Global;
 
 /// The bytes of a file, read on the port to its end, unless it has more than `limit` bytes.
+#[tactic(auto, using(crate::proofs::KeptPorts::not_read_keeps, crate::proofs::KeptPorts::read_keeps))]
 pub(crate) fn read_file<H: Host>(
     alloc: Global,
     host: &mut H,
@@ -21,6 +22,7 @@ pub(crate) fn read_file<H: Host>(
     ensures failed { IsErrOf result ReadEnd.Failed → Rose (H.world host.old).read_faults (H.world host.new).read_faults }
     ensures given_up { OnErr result (OnlyRead H.told (H.world host.old) (H.world host.new)) }
     ensures begun { BeginsAtMost port (H.world host.old) (H.world host.new) }
+    ensures others { KeepsPorts H.told (IsAt port) (H.world host.old) (H.world host.new) }
 {
     host.begin_read(port, name)?;
     read_all(alloc, host, port, limit)

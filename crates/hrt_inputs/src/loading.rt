@@ -6,7 +6,7 @@ ghost use Rattle.rank_tables.specs.Tables.{numbers_of, IsPairNo};
 ghost use Rattle.rank_tables.specs.Terms.{model_terms};
 ghost use Rattle.rank_tables.specs.WellFormed.{most_pairs, most_terms};
 ghost use Rattle.hrt_inputs.specs.declared.limit.Limit.TheVariants.{InstanceBytes, PairsBytes};
-ghost use Rattle.hrt_inputs.specs.Inputs.{BeginsAtMost};
+ghost use Rattle.hrt_inputs.specs.Inputs.{BeginsAtMost, IsAt, KeepsPorts};
 ghost use Rattle.hrt_inputs.specs.Limits.{most, IsOnPairs};
 ghost use Rattle.hrt_inputs.specs.Loading.{ArePairsLoaded, IsLoaded, StopsLoading, StopsLoadingPairs, StopsPairsText, StopsText};
 ghost use Rattle.hrt_inputs.specs.Rejections.{exceeded};
@@ -32,6 +32,7 @@ pub fn load<H: Host>(
     ensures loaded { IfOk result (λ lists. IsLoaded H.told name.now limit lists (H.world host.old) (H.world host.new)) }
     ensures stopped { IfErr result (λ stop. StopsLoading H.told name.now limit stop (H.world host.old) (H.world host.new)) }
     ensures begun { BeginsAtMost Port.Instance (H.world host.old) (H.world host.new) }
+    ensures others { KeepsPorts H.told (IsAt Port.Instance) (H.world host.old) (H.world host.new) }
 {
     match read_file(
         alloc,
@@ -98,6 +99,7 @@ pub fn load_pairs<H: Host>(
     ensures distinct { IfOk result (λ pairs. IsTrue (is_distinct (numbers_of pairs.items))) }
     ensures stopped { IfErr result (λ stop. StopsLoadingPairs H.told name.now inst.now stop (H.world host.old) (H.world host.new)) }
     ensures begun { BeginsAtMost Port.Pairs (H.world host.old) (H.world host.new) }
+    ensures others { KeepsPorts H.told (IsAt Port.Pairs) (H.world host.old) (H.world host.new) }
 {
     match read_file(
         alloc,

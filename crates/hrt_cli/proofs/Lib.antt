@@ -5,6 +5,7 @@ mod Codes
 mod JudgedProofs
 mod NamedOutputs
 mod OneVerdict
+mod OtherPorts
 mod PrintedAudits
 mod PrintedBounds
 mod PrintedClaims

@@ -4,6 +4,7 @@ use Rattle.hrt_base.specs.declared.port.Port.{Port}
 use Rattle.hrt_base.specs.declared.port.Port.TheVariants.{Instance, Pairs, Model, Proof, Report}
 use Rattle.hrt_base.specs.declared.host.Begun.TheVariants.{Reading, Writing}
 use Rattle.hrt_base.specs.World.{World}
+use Rattle.hrt_inputs.specs.Inputs.{KeepsPorts}
 use Rattle.hrt_inputs.specs.Taken.{IsTaken, IsTakenAs, formula_in}
 use Rattle.hrt_cli.specs.Requests.{Request, solve, audit, model, verify, check, bound, quick}
 use Rattle.hrt_cli.specs.Verdicts.{Files}
@@ -37,6 +38,21 @@ IsOutput told (Some (verify instance proof)) files port = ⊥
 IsOutput told (Some (check file proof)) files port = ⊥
 IsOutput told (Some (bound instance file proof)) files port = IsModelOrProof port × (told → IsTaken (files instance))
 IsOutput told (Some (quick instance file proof)) files port = IsModelOrProof port × (told → IsTaken (files instance))
+
+-- the command uses this port: that of one of its files, or the report
+abbrev pub IsPortOf : Option Request → Port → Type 0
+IsPortOf None port = port ≡ Report
+IsPortOf (Some (solve instance)) port = (port ≡ Instance) ⊎ (port ≡ Report)
+IsPortOf (Some (audit instance pairs)) port = (port ≡ Instance) ⊎ (port ≡ Pairs) ⊎ (port ≡ Report)
+IsPortOf (Some (model instance file)) port = (port ≡ Instance) ⊎ IsModel port ⊎ (port ≡ Report)
+IsPortOf (Some (verify instance proof)) port = (port ≡ Instance) ⊎ (port ≡ Proof) ⊎ (port ≡ Report)
+IsPortOf (Some (check file proof)) port = (port ≡ Model) ⊎ (port ≡ Proof) ⊎ (port ≡ Report)
+IsPortOf (Some (bound instance file proof)) port = (port ≡ Instance) ⊎ IsModelOrProof port ⊎ (port ≡ Report)
+IsPortOf (Some (quick instance file proof)) port = (port ≡ Instance) ⊎ IsModelOrProof port ⊎ (port ≡ Report)
+
+-- of the ports that the command doesn't use the name, what is left to read and what was sent are as they were
+pub record LeavesOthers (told : Type 0) (request : Option Request) (old new : World) : Type 0 where
+  pub others : KeepsPorts told (IsPortOf request) old new
 
 -- a port that is begun for reading is that of an input
 pub record ReadsInputs (told : Type 0) (request : Option Request) (old new : World) : Type 0 where

@@ -2,8 +2,9 @@
 ghost use Rattle.std.specs.Prelude.{◌≡◌, [], ◌∷◌, Some, IfOk, IfErr, OnOk, OnErr, IsErrOf};
 ghost use Rattle.hrt_base.specs.Calls.{AtStart, Rose};
 ghost use Rattle.opb_text.specs.Spelling.{model_text};
+ghost use Rattle.hrt_inputs.specs.Inputs.{IsAt, KeepsPorts};
 ghost use Rattle.hrt_cli.specs.Answers.{EndsEarly, IsAnswer, IsWorked};
-ghost use Rattle.hrt_cli.specs.Ports.{BeginsWriting, IsModel, ReadsInputs, WritesOutputs};
+ghost use Rattle.hrt_cli.specs.Ports.{BeginsWriting, IsModel, LeavesOthers, ReadsInputs, WritesOutputs};
 ghost use Rattle.hrt_cli.specs.Reports.{model_report};
 ghost use Rattle.hrt_cli.specs.Requests.{model};
 ghost use Rattle.hrt_cli.specs.Verdicts.{modeled};
@@ -30,6 +31,7 @@ pub fn model<H: Host>(
     ensures ended { IfErr result (λ ended. EndsEarly H.told (Some (model instance.now file.now)) ended (H.world host.old) (H.world host.new)) }
     ensures inputs { ReadsInputs H.told (Some (model instance.now file.now)) (H.world host.old) (H.world host.new) }
     ensures outputs { WritesOutputs H.told (Some (model instance.now file.now)) (H.world host.old) (H.world host.new) }
+    ensures others { LeavesOthers H.told (Some (model instance.now file.now)) (H.world host.old) (H.world host.new) }
 {
     match load(alloc, host, instance, Limit::Pairs) {
         Ok(inst) => modeled(alloc, host, file, &inst),
@@ -38,7 +40,7 @@ pub fn model<H: Host>(
 }
 
 // Writes the model of the instance.
-#[tactic(auto, using(crate::proofs::BegunOutputs::nothing_done, crate::proofs::BegunPorts::begins_none))]
+#[tactic(auto, using(crate::proofs::BegunOutputs::nothing_done, crate::proofs::BegunPorts::begins_none, hrt_inputs::proofs::KeptPorts::keeps_all))]
 fn modeled<H: Host>(
     alloc: Global,
     host: &mut H,
@@ -47,6 +49,7 @@ fn modeled<H: Host>(
 ) -> Result<Answer, Ended>
     requires { (H.world host.old).begun Port.Model ≡ Begun.Idle }
     ensures ports { BeginsWriting IsModel (H.world host.old) (H.world host.new) }
+    ensures others { KeepsPorts H.told (IsAt Port.Model) (H.world host.old) (H.world host.new) }
     ensures saved { OnOk result (WritesAll H.told (output Port.Model file.now (model_text inst.now) ∷ []) (H.world host.old) (H.world host.new)) }
     ensures answered { IfOk result (λ answer. IsAnswer (modeled inst.now) answer) }
     ensures ended { IfErr result (λ ended. EndsWriting H.told (output Port.Model file.now (model_text inst.now) ∷ []) ended (H.world host.old) (H.world host.new)) }
@@ -73,7 +76,7 @@ fn model_report(alloc: Global, model: &Model) -> Result<Report, NoMemory>
 }
 
 // Writes the model under the name and seals it.
-#[tactic(auto, using(crate::proofs::BegunOutputs::none_begun, crate::proofs::BegunOutputs::model_saved, crate::proofs::BegunPorts::none_begins, crate::proofs::BegunPorts::model_front_begins, crate::proofs::BegunPorts::model_unsealed_begins, crate::proofs::BegunPorts::model_sealed_begins))]
+#[tactic(auto, using(crate::proofs::BegunOutputs::none_begun, crate::proofs::BegunOutputs::model_saved, crate::proofs::BegunPorts::none_begins, crate::proofs::BegunPorts::model_front_begins, crate::proofs::BegunPorts::model_unsealed_begins, crate::proofs::BegunPorts::model_sealed_begins, crate::proofs::OtherPorts::not_written_keeps, crate::proofs::OtherPorts::begun_front_keeps, crate::proofs::OtherPorts::begun_unsealed_keeps, crate::proofs::OtherPorts::begun_sealed_keeps))]
 fn save_model<H: Host>(
     alloc: Global,
     host: &mut H,
@@ -82,6 +85,7 @@ fn save_model<H: Host>(
 ) -> Result<(), WriteEnd>
     requires { (H.world host.old).begun Port.Model ≡ Begun.Idle }
     ensures ports { BeginsWriting IsModel (H.world host.old) (H.world host.new) }
+    ensures others { KeepsPorts H.told (IsAt Port.Model) (H.world host.old) (H.world host.new) }
     ensures saved { OnOk result (WritesAll H.told (output Port.Model file.now (model_text model.now) ∷ []) (H.world host.old) (H.world host.new)) }
     ensures part { OnErr result (WritesInPart H.told (output Port.Model file.now (model_text model.now) ∷ []) (H.world host.old) (H.world host.new)) }
     ensures failed { IsErrOf result WriteEnd.Failed → Rose (H.world host.old).write_faults (H.world host.new).write_faults }

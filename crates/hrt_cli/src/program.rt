@@ -4,7 +4,7 @@ ghost use Rattle.hrt_base.specs.declared.port.Port.{Port};
 ghost use Rattle.hrt_base.specs.Calls.{AtStart, Rose, SentPart};
 ghost use Rattle.hrt_solve.specs.Writing.{SentWhole};
 ghost use Rattle.hrt_cli.specs.Answers.{EndsEarly, IsCutShort, IsWorked, LeavesFronts, SendsNothing};
-ghost use Rattle.hrt_cli.specs.Ports.{ReadsInputs, WritesOutputs};
+ghost use Rattle.hrt_cli.specs.Ports.{LeavesOthers, ReadsInputs, WritesOutputs};
 ghost use Rattle.hrt_cli.specs.Requests.{asked_by, audit, bound, check, model, quick, request_of, solve, texts_of, verify};
 ghost use Rattle.hrt_cli.specs.Runs.{EndsAs, Finishes, IsComplete, IsDecided, IsDue, KeepsFiles, KeepsOthers, PrintsAudit, PrintsBest, PrintsBound, PrintsClaim, PrintsMet, PrintsOpen, PrintsSizes, WritesModel, has_report, is_code_of, keeps_files};
 
@@ -47,6 +47,7 @@ pub fn run<H: Host>(alloc: Global, words: &[String], host: &mut H) -> u8
     ensures closed { has_report result ≡ true → (port : Port) → (H.world host.new).begun port ≡ Begun.Writing → ⊥ }
     ensures inputs { ReadsInputs H.told (request_of (texts_of words.now)) (H.world host.old) (H.world host.new) }
     ensures outputs { WritesOutputs H.told (request_of (texts_of words.now)) (H.world host.old) (H.world host.new) }
+    ensures others { LeavesOthers H.told (request_of (texts_of words.now)) (H.world host.old) (H.world host.new) }
     ensures files { H.told → KeepsOthers (request_of (texts_of words.now)) (H.world host.old).content (H.world host.new).content }
     ensures files_kept { H.told → keeps_files result ≡ true → KeepsFiles (H.world host.old).content (H.world host.new).content }
     ensures known { is_code_of (request_of (texts_of words.now)) result ≡ true }
@@ -55,12 +56,13 @@ pub fn run<H: Host>(alloc: Global, words: &[String], host: &mut H) -> u8
 }
 
 // Does what the words ask for, and tells how it ended.
-#[tactic(auto, using(crate::proofs::BegunPorts::at_start_reads, crate::proofs::BegunPorts::at_start_writes, crate::proofs::BegunPorts::sent_whole_reads, crate::proofs::BegunPorts::sent_whole_writes, crate::proofs::BegunPorts::sent_part_reads, crate::proofs::BegunPorts::sent_part_writes))]
+#[tactic(auto, using(crate::proofs::BegunPorts::at_start_reads, crate::proofs::BegunPorts::at_start_writes, crate::proofs::BegunPorts::sent_whole_reads, crate::proofs::BegunPorts::sent_whole_writes, crate::proofs::BegunPorts::sent_part_reads, crate::proofs::BegunPorts::sent_part_writes, crate::proofs::OtherPorts::nothing_asked_keeps, crate::proofs::OtherPorts::report_sent_keeps, crate::proofs::OtherPorts::report_part_keeps))]
 fn carry_out<H: Host>(alloc: Global, words: &[String], host: &mut H) -> Status
     requires { AtStart H.told (H.world host.old) }
     ensures ends { EndsAs H.told (request_of (texts_of words.now)) result (H.world host.old) (H.world host.new) }
     ensures inputs { ReadsInputs H.told (request_of (texts_of words.now)) (H.world host.old) (H.world host.new) }
     ensures outputs { WritesOutputs H.told (request_of (texts_of words.now)) (H.world host.old) (H.world host.new) }
+    ensures others { LeavesOthers H.told (request_of (texts_of words.now)) (H.world host.old) (H.world host.new) }
 {
     let Some(command) = command_of(words) else {
         return match send(host, b"words not understood\n") {
@@ -86,6 +88,7 @@ fn answer_to<H: Host>(alloc: Global, host: &mut H, command: Command) -> Result<A
     ensures ended { IfErr result (λ ended. EndsEarly H.told (Some (asked_by command.entry)) ended (H.world host.old) (H.world host.new)) }
     ensures inputs { ReadsInputs H.told (Some (asked_by command.entry)) (H.world host.old) (H.world host.new) }
     ensures outputs { WritesOutputs H.told (Some (asked_by command.entry)) (H.world host.old) (H.world host.new) }
+    ensures others { LeavesOthers H.told (Some (asked_by command.entry)) (H.world host.old) (H.world host.new) }
 {
     match command {
         Command::Solve(instance) => solve(alloc, host, instance),

@@ -3,8 +3,9 @@ ghost use Rattle.std.specs.Prelude.{◌≡◌, IfErr, IfOk, IsErrOf, List, OnErr
 ghost use Rattle.hrt_base.specs.Calls.{AtStart, Rose};
 ghost use Rattle.hrt_solve.specs.Gauged.{bound_claim};
 ghost use Rattle.hrt_solve.specs.Writing.{IsBoundText, IsQuickEnd, IsQuickText};
+ghost use Rattle.hrt_inputs.specs.Inputs.{KeepsPorts};
 ghost use Rattle.hrt_cli.specs.Answers.{EndsEarly, IsAnswer, IsWorked};
-ghost use Rattle.hrt_cli.specs.Ports.{BeginsWriting, IsModelOrProof, ReadsInputs, WritesOutputs};
+ghost use Rattle.hrt_cli.specs.Ports.{BeginsWriting, IsModelOrProof, LeavesOthers, ReadsInputs, WritesOutputs};
 ghost use Rattle.hrt_cli.specs.Requests.{bound, quick};
 ghost use Rattle.hrt_cli.specs.Verdicts.{bounded, first_claim, matched};
 ghost use Rattle.hrt_cli.specs.Writing.{AreBegun, SavesInPart, SavesProof, WritesNothing};
@@ -30,6 +31,7 @@ pub fn bound<H: Host>(
     ensures ended { IfErr result (λ ended. EndsEarly H.told (Some (bound instance.now model.now proof.now)) ended (H.world host.old) (H.world host.new)) }
     ensures inputs { ReadsInputs H.told (Some (bound instance.now model.now proof.now)) (H.world host.old) (H.world host.new) }
     ensures outputs { WritesOutputs H.told (Some (bound instance.now model.now proof.now)) (H.world host.old) (H.world host.new) }
+    ensures others { LeavesOthers H.told (Some (bound instance.now model.now proof.now)) (H.world host.old) (H.world host.new) }
 {
     let inst = match load(alloc, host, instance, Limit::Pairs) {
         Ok(inst) => inst,
@@ -54,6 +56,7 @@ pub fn quick<H: Host>(
     ensures ended { IfErr result (λ ended. EndsEarly H.told (Some (quick instance.now model.now proof.now)) ended (H.world host.old) (H.world host.new)) }
     ensures inputs { ReadsInputs H.told (Some (quick instance.now model.now proof.now)) (H.world host.old) (H.world host.new) }
     ensures outputs { WritesOutputs H.told (Some (quick instance.now model.now proof.now)) (H.world host.old) (H.world host.new) }
+    ensures others { LeavesOthers H.told (Some (quick instance.now model.now proof.now)) (H.world host.old) (H.world host.new) }
 {
     let inst = match load(alloc, host, instance, Limit::Pairs) {
         Ok(inst) => inst,
@@ -66,11 +69,12 @@ pub fn quick<H: Host>(
 }
 
 // Begins the files of the model and of the proof.
-#[tactic(auto, using(crate::proofs::BegunOutputs::are_begun, crate::proofs::BegunOutputs::none_begun, crate::proofs::BegunOutputs::one_begun, crate::proofs::BegunPorts::none_begins, crate::proofs::BegunPorts::one_begins, crate::proofs::BegunPorts::two_begin))]
+#[tactic(auto, using(crate::proofs::BegunOutputs::are_begun, crate::proofs::BegunOutputs::none_begun, crate::proofs::BegunOutputs::one_begun, crate::proofs::BegunPorts::none_begins, crate::proofs::BegunPorts::one_begins, crate::proofs::BegunPorts::two_begin, crate::proofs::OtherPorts::not_written_keeps, crate::proofs::OtherPorts::one_begun_keeps, crate::proofs::OtherPorts::two_begun_keep))]
 fn begin<H: Host>(host: &mut H, model: &str, proof: &str) -> Result<(), WriteEnd>
     requires model { (H.world host.old).begun Port.Model ≡ Begun.Idle }
     requires proof { (H.world host.old).begun Port.Proof ≡ Begun.Idle }
     ensures ports { BeginsWriting IsModelOrProof (H.world host.old) (H.world host.new) }
+    ensures others { KeepsPorts H.told IsModelOrProof (H.world host.old) (H.world host.new) }
     ensures begun { OnOk result (AreBegun H.told model.now proof.now (H.world host.old) (H.world host.new)) }
     ensures part { OnErr result (WritesNothing H.told (H.world host.old) (H.world host.new)) }
     ensures failed { IsErrOf result WriteEnd.Failed → Rose (H.world host.old).write_faults (H.world host.new).write_faults }
@@ -91,6 +95,7 @@ fn save_bound<H: Host>(
     requires model { (H.world host.old).begun Port.Model ≡ Begun.Idle }
     requires proof { (H.world host.old).begun Port.Proof ≡ Begun.Idle }
     ensures ports { BeginsWriting IsModelOrProof (H.world host.old) (H.world host.new) }
+    ensures others { KeepsPorts H.told IsModelOrProof (H.world host.old) (H.world host.new) }
     ensures saved { IfOk result (λ end. SavesProof H.told (bound_claim end.ceiling) inst.now end.deleted end.ceiling model.now proof.now (H.world host.old) (H.world host.new)) }
     ensures part { OnErr result (SavesInPart H.told (IsBoundText inst.now) inst.now model.now proof.now (H.world host.old) (H.world host.new)) }
     ensures failed { IsErrOf result WriteEnd.Failed → Rose (H.world host.old).write_faults (H.world host.new).write_faults }
@@ -110,6 +115,7 @@ fn save_match<H: Host>(
     requires model { (H.world host.old).begun Port.Model ≡ Begun.Idle }
     requires proof { (H.world host.old).begun Port.Proof ≡ Begun.Idle }
     ensures ports { BeginsWriting IsModelOrProof (H.world host.old) (H.world host.new) }
+    ensures others { KeepsPorts H.told IsModelOrProof (H.world host.old) (H.world host.new) }
     ensures said { IfOk result (λ end. IsQuickEnd inst.now end) }
     ensures saved { IfOk result (λ end. SavesProof H.told (first_claim inst.now end.ceiling) inst.now end.deleted end.ceiling model.now proof.now (H.world host.old) (H.world host.new)) }
     ensures part { OnErr result (SavesInPart H.told (IsQuickText inst.now) inst.now model.now proof.now (H.world host.old) (H.world host.new)) }

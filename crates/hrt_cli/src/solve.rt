@@ -3,7 +3,7 @@ ghost use Rattle.std.specs.Prelude.{◌≡◌, ◌≤◌, Some, IfOk, IfErr};
 ghost use Rattle.hrt_base.specs.Calls.{AtStart};
 ghost use Rattle.rank_tables.specs.Instance.{pair_count};
 ghost use Rattle.hrt_cli.specs.Answers.{GivesUp, IsAnswer, IsAnswered};
-ghost use Rattle.hrt_cli.specs.Ports.{ReadsInputs, WritesOutputs};
+ghost use Rattle.hrt_cli.specs.Ports.{LeavesOthers, ReadsInputs, WritesOutputs};
 ghost use Rattle.hrt_cli.specs.Requests.{solve};
 ghost use Rattle.hrt_cli.specs.Verdicts.{solved};
 
@@ -16,13 +16,14 @@ use rank_tables::Instance;
 use std::alloc::Global;
 
 /// Reads the instance and tries every set of its pairs.
-#[tactic(auto, using(crate::proofs::Solving::solved_due, crate::proofs::ReadOut::reads_one, crate::proofs::BegunPorts::solve_reads, crate::proofs::BegunPorts::writes_nothing))]
+#[tactic(auto, using(crate::proofs::Solving::solved_due, crate::proofs::ReadOut::reads_one, crate::proofs::BegunPorts::solve_reads, crate::proofs::BegunPorts::writes_nothing, crate::proofs::OtherPorts::solve_keeps))]
 pub fn solve<H: Host>(alloc: Global, host: &mut H, instance: &str) -> Result<Answer, Ended>
     requires { AtStart H.told (H.world host.old) }
     ensures answered { IfOk result (λ answer. IsAnswered H.told (Some (solve instance.now)) answer (H.world host.old) (H.world host.new)) }
     ensures ended { IfErr result (λ ended. GivesUp H.told ended (H.world host.old) (H.world host.new)) }
     ensures inputs { ReadsInputs H.told (Some (solve instance.now)) (H.world host.old) (H.world host.new) }
     ensures outputs { WritesOutputs H.told (Some (solve instance.now)) (H.world host.old) (H.world host.new) }
+    ensures others { LeavesOthers H.told (Some (solve instance.now)) (H.world host.old) (H.world host.new) }
 {
     match load(alloc, host, instance, Limit::TriedPairs) {
         Ok(inst) => solved(alloc, &inst),

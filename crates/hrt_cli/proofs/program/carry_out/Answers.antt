@@ -2,9 +2,11 @@ use Rattle.std.proofs.Common.{Option, List, ℕ, refl, subst}
 use Rattle.hrt_base.specs.declared.port.Port.TheVariants.{Report}
 use Rattle.hrt_base.specs.Calls.{SentPart}
 use Rattle.hrt_cli.specs.Requests.{Request}
+use Rattle.hrt_cli.specs.Ports.{LeavesOthers}
 use Rattle.hrt_cli.specs.Answers.{CutShort}
 use Rattle.hrt_cli.specs.declared.status.Status.TheVariants.{Misused}
 use Rattle.hrt_cli.specs.Runs.{Reported}
+use Rattle.hrt_cli.proofs.OtherPorts.{report_part_keeps, report_sent_keeps}
 use Rattle.hrt_cli.proofs.Runs.{cut_short, misused_cut, misused_whole}
 use Rattle.hrt_cli.proofs.program.carry_out.Goals as goal
 
@@ -23,3 +25,13 @@ returns-in-Ok-answer_to-clause-ends g c =
     let part = subst (λ (l : List ℕ). SentPart g.H.Host.told Report l (g.H.Host.world c.answer_to.new.host) (g.H.Host.world c.send-in-Ok-answer_to.new.host)) c.as_bytes.ensures c.in-Err-send.ensures.failed in
     subst (λ (r : Option Request). CutShort g.H.Host.told r (g.H.Host.world c.args.host.now) (g.H.Host.world c.send-in-Ok-answer_to.new.host)) c.in-Some.ensures
     (cut_short _ _ _ _ _ _ c.in-Ok-answer_to.ensures.worked part)
+
+pub returns-in-Ok-send-clause-others : goal.returns-in-Ok-send-clause-others
+returns-in-Ok-send-clause-others g c =
+    subst (λ (r : Option Request). LeavesOthers g.H.Host.told r (g.H.Host.world c.args.host.now) (g.H.Host.world c.send-in-Ok-answer_to.new.host)) c.in-Some.ensures
+    (report_sent_keeps _ _ _ _ _ _ c.in-Ok-answer_to.ensures.others c.in-Ok-send.ensures.sent)
+
+pub returns-in-Ok-answer_to-clause-others : goal.returns-in-Ok-answer_to-clause-others
+returns-in-Ok-answer_to-clause-others g c =
+    subst (λ (r : Option Request). LeavesOthers g.H.Host.told r (g.H.Host.world c.args.host.now) (g.H.Host.world c.send-in-Ok-answer_to.new.host)) c.in-Some.ensures
+    (report_part_keeps _ _ _ _ _ _ c.in-Ok-answer_to.ensures.others c.in-Err-send.ensures.failed)

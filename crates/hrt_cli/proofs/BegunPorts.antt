@@ -15,8 +15,7 @@ use Rattle.proof_lines.specs.declared.line.Claim.{Claim}
 use Rattle.hrt_solve.specs.Writing.{SentBoth, SentFrontBehind, StopsWriting}
 use Rattle.hrt_inputs.specs.declared.limit.Limit.TheVariants as limit
 use Rattle.hrt_inputs.specs.Inputs.{BeginsAtMost}
-use Rattle.hrt_inputs.specs.Loading.{IsLoaded}
-use Rattle.hrt_inputs.specs.Formulas.{IsFormulaRead}
+use Rattle.hrt_inputs.specs.Loading.{IsLoaded, IsRead}
 use Rattle.hrt_inputs.specs.Taken.{IsTakenAs, formula_in}
 use Rattle.hrt_cli.specs.declared.answer.Answer.{Answer}
 use Rattle.hrt_cli.specs.declared.stop.Ended.{Ended}
@@ -99,7 +98,7 @@ sent_part_writes told request text old mid new before sent = record { output = �
 
 -- ---- the commands that only read
 
-model_taken : (told : Type 0) (name : List ℕ) (f : Formula) (old new : World) → IsFormulaRead told Model name formula_in f old new → told → IsTakenAs formula_in (old.content.file name)
+model_taken : (told : Type 0) (name : List ℕ) (f : Formula) (old new : World) → IsRead told Model name formula_in f old new → told → IsTakenAs formula_in (old.content.file name)
 model_taken told name f old new read t = let text = read.spelled t in record { bytes = text.0; is_file = text.1; value = f; taken = text.2 }
 
 -- from the start one port was read
@@ -132,7 +131,7 @@ verify_reads_two told i p lists old mid new start one loaded two =
 pub check_reads_one : (told : Type 0) (m p : List ℕ) (old new : World) → AtStart told old → BeginsAtMost Model old new → ReadsInputs told (Some (check m p)) old new
 check_reads_one told m p old new start most = reads_first told (Some (check m p)) Model old new start most (inl refl)
 
-pub check_reads_two : (told : Type 0) (m p : List ℕ) (f : Formula) (old mid new : World) → AtStart told old → BeginsAtMost Model old mid → IsFormulaRead told Model m formula_in f old mid → BeginsAtMost Proof mid new
+pub check_reads_two : (told : Type 0) (m p : List ℕ) (f : Formula) (old mid new : World) → AtStart told old → BeginsAtMost Model old mid → IsRead told Model m formula_in f old mid → BeginsAtMost Proof mid new
     → ReadsInputs told (Some (check m p)) old new
 check_reads_two told m p f old mid new start one read two =
     reads_next told (Some (check m p)) Proof old mid new (check_reads_one told m p old mid start one) two (inr (refl, model_taken told m f old mid read))

@@ -27,7 +27,7 @@ use Rattle.hrt_cli.proofs.OneVerdict.{one_told, some_is}
 
 pub read_fault : (told : Type 0) (request : Option Request) (status : Status) (old new : World) → EndsAs told request status old new → code_of status ≡ 4
     → Rose old.read_faults new.read_faults
-read_fault told request ReadFault old new ends e = ends.rose
+read_fault told request ReadFault old new ends e = ends.failed.rose
 read_fault told request WriteFault old new ends e = absurd (cc)
 read_fault told request NoMemory old new ends e = absurd (cc)
 read_fault told request Done old new ends e = absurd (cc)
@@ -41,7 +41,7 @@ read_fault told request Bounded old new ends e = absurd (cc)
 
 pub no_output_begun : (told : Type 0) (request : Option Request) (status : Status) (old new : World) → EndsAs told request status old new → code_of status ≡ 4
     → (port : Port) → new.begun port ≡ Writing → port ≡ Report
-no_output_begun told request ReadFault old new ends e = ends.writers
+no_output_begun told request ReadFault old new ends e = ends.failed.writers
 no_output_begun told request WriteFault old new ends e = absurd (cc)
 no_output_begun told request NoMemory old new ends e = absurd (cc)
 no_output_begun told request Done old new ends e = absurd (cc)
@@ -69,7 +69,7 @@ write_fault told request Bounded old new ends e = absurd (cc)
 
 pub after_read_fault : (told : Type 0) (request : Option Request) (status : Status) (old new : World) → EndsAs told request status old new → told → code_of status ≡ 4
     → SendsNothing old.content new.content
-after_read_fault told request ReadFault old new ends t e = ends.nothing t
+after_read_fault told request ReadFault old new ends t e = ends.failed.nothing t
 after_read_fault told request WriteFault old new ends t e = absurd (cc)
 after_read_fault told request NoMemory old new ends t e = absurd (cc)
 after_read_fault told request Done old new ends t e = absurd (cc)
@@ -146,7 +146,7 @@ closed told request status old new ends has = (reported told request status old 
 -- without a rise of the counts of faults there is a report, or memory was wanting
 pub reported_or : (told : Type 0) (request : Option Request) (status : Status) (old new : World) → EndsAs told request status old new
     → (Rose old.read_faults new.read_faults → ⊥) → (Rose old.write_faults new.write_faults → ⊥) → Reported told request status old new ⊎ (code_of status ≡ 6)
-reported_or told request ReadFault old new ends unread unwritten = absurd (unread ends.rose)
+reported_or told request ReadFault old new ends unread unwritten = absurd (unread ends.failed.rose)
 reported_or told request WriteFault old new ends unread unwritten = absurd (unwritten ends.rose)
 reported_or told request NoMemory old new ends unread unwritten = inr refl
 reported_or told request Done old new ends unread unwritten = inl ends
@@ -242,7 +242,7 @@ kept_unwritten request status old new other open_too told_of name =
     (none_written request told_of.verdict (λ e. other (told_of.answered ∙ e)) (λ e. open_too (told_of.answered ∙ e)))
 
 pub files_kept : (told : Type 0) (request : Option Request) (status : Status) (old new : World) → EndsAs told request status old new → told → keeps_files (code_of status) ≡ true → KeepsFiles old.content new.content
-files_kept told request ReadFault old new ends t e = (ends.nothing t).files
+files_kept told request ReadFault old new ends t e = (ends.failed.nothing t).files
 files_kept told request NoMemory old new ends t e = absurd (cc)
 files_kept told request WriteFault old new ends t e = absurd (cc)
 files_kept told request Done old new ends t e = absurd (cc)
@@ -328,7 +328,7 @@ kept_reported : (request : Option Request) (status : Status) (old new : World) �
 kept_reported request status old new told_of = kept_sent request told_of.verdict old new told_of.sends
 
 pub others_kept : (told : Type 0) (request : Option Request) (status : Status) (old new : World) → EndsAs told request status old new → told → KeepsOthers request old.content new.content
-others_kept told request ReadFault old new ends t name e = (ends.nothing t).files name
+others_kept told request ReadFault old new ends t name e = (ends.failed.nothing t).files name
 others_kept told request NoMemory old new ends t name e = kept_left request old new (ends.fronts t) name e
 others_kept told request WriteFault old new ends t name e = kept_cut request old new (ends.cut_short t) name e
 others_kept told request Done old new ends t name e = kept_reported request Done old new (ends.reported t) name e

@@ -17,8 +17,7 @@ use Rattle.hrt_inputs.specs.declared.stop.Stop.{Stop}
 use Rattle.hrt_inputs.specs.declared.stop.Stop.TheVariants.{Refused, Exceeded, PairsRefused, ModelRefused, ProofRefused, ReadFault, NoMemory}
 use Rattle.hrt_inputs.specs.Inputs.{IsTooLong}
 use Rattle.hrt_inputs.specs.Limits.{most}
-use Rattle.hrt_inputs.specs.Loading.{IsLoaded, IsRejected, StopsLoading}
-use Rattle.hrt_inputs.specs.Formulas.{IsFormulaRead}
+use Rattle.hrt_inputs.specs.Loading.{IsLoaded, IsRead, IsRejected, StopsLoading}
 use Rattle.hrt_inputs.specs.Proofs.{IsProofJudged, StopsProof}
 use Rattle.hrt_inputs.specs.Rejections.{Rejection, exceeded}
 use Rattle.hrt_inputs.specs.Taken.{formula_in, formula_of_instance, model_of}
@@ -75,7 +74,7 @@ checking m p = record {
 }
 
 abbrev IsReadFor : (told : Type 0) → Task → Formula → World → World → Type 0
-IsReadFor told task f old new = IsFormulaRead told task.port task.input task.read f old new
+IsReadFor told task f old new = IsRead told task.port task.input task.read f old new
 
 -- ---- what is answered
 
@@ -152,7 +151,7 @@ proof_accepted told task f claim (Err why) old mid new start read judged answere
 
 -- ---- an instance and a proof
 
-pub loaded_read : (told : Type 0) (i : List ℕ) (lists : Lists) (old mid : World) → IsLoaded told i limit.Pairs lists old mid → IsFormulaRead told Instance i formula_of_instance (formula lists) old mid
+pub loaded_read : (told : Type 0) (i : List ℕ) (lists : Lists) (old mid : World) → IsLoaded told i limit.Pairs lists old mid → IsRead told Instance i formula_of_instance (formula lists) old mid
 loaded_read told i lists old mid loaded = record {
   only_read = loaded.only_read;
   begun = loaded.begun;
@@ -202,10 +201,10 @@ instance_stopped told i p stop (Err why) old new start stops tells = tt
 
 -- ---- a model and a proof
 
-pub check_stopped : (told : Type 0) (m p : List ℕ) (f : Formula) (stop : Stop) (r : Result Answer Ended) (old mid new : World) → AtStart told old → IsFormulaRead told Model m formula_in f old mid
+pub check_stopped : (told : Type 0) (m p : List ℕ) (f : Formula) (stop : Stop) (r : Result Answer Ended) (old mid new : World) → AtStart told old → IsRead told Model m formula_in f old mid
     → StopsProof told p f stop mid new → IfOk r (Explains stop) → IfOk r (λ answer. IsAnswered told (Some (check m p)) answer old new)
 check_stopped told m p f stop r old mid new start read stops tells = proof_stopped told (checking m p) f stop r old mid new start read stops tells
 
-pub check_accepted : (told : Type 0) (m p : List ℕ) (f : Formula) (claim : Claim) (r : Result Answer Ended) (old mid new : World) → AtStart told old → IsFormulaRead told Model m formula_in f old mid
+pub check_accepted : (told : Type 0) (m p : List ℕ) (f : Formula) (claim : Claim) (r : Result Answer Ended) (old mid new : World) → AtStart told old → IsRead told Model m formula_in f old mid
     → IsProofJudged told p f (text.Accepted claim) mid new → IfOk r (λ answer. IsAnswer (checked claim) answer) → IfOk r (λ answer. IsAnswered told (Some (check m p)) answer old new)
 check_accepted told m p f claim r old mid new start read judged answered = proof_accepted told (checking m p) f claim r old mid new start read judged answered

@@ -1,9 +1,9 @@
 -- What a command leaves of the ports that aren't its own.
-use Rattle.std.proofs.Common.{◌≡◌, ◌⊎◌, ℕ, List, [], ◌++◌, Option, Some, None, refl, ◌∙◌, ap, inl, inr}
+use Rattle.std.proofs.Common.{◌≡◌, ◌⊎◌, ℕ, List, [], ◌++◌, Option, Some, None, ◌∙◌, ap, inl, inr}
 use Rattle.hrt_base.specs.declared.port.Port.{Port}
 use Rattle.hrt_base.specs.declared.port.Port.TheVariants.{Instance, Pairs, Model, Proof, Report}
 use Rattle.hrt_base.specs.Calls.{NotWritten, Sealed, Sent, SentFront, SentPart, Started}
-use Rattle.hrt_base.specs.World.{World, Content, appended, sealed, started}
+use Rattle.hrt_base.specs.World.{World, Content}
 use Rattle.rank_tables.specs.Instance.{Lists}
 use Rattle.opb_text.specs.Spelling.{model_text}
 use Rattle.hrt_solve.specs.declared.ends.BoundEnd.{BoundEnd}

@@ -1,6 +1,5 @@
 -- The texts of reports. Each line ends with a line feed.
-use Rattle.std.specs.Prelude.{◌≡◌, ◌<◌, ℕ, ◌==◌, if◌then◌else◌, List, [], ◌∷◌, ◌++◌, length, flat_map, decimal, codes, ℤ, neg_ℤ, Option, Some, None, IfSome, option_map}
-use Rattle.std.specs.Fmt.{signed_decimal}
+use Rattle.std.specs.Prelude.{◌≡◌, ◌<◌, ℕ, ◌==◌, if◌then◌else◌, List, [], ◌∷◌, ◌++◌, length, flat_map, decimal, codes, ℤ, neg_ℤ, Option, None, IfSome, option_map}
 use Rattle.std.specs.List.Sorted.{IsStrictlyIncreasing}
 use Rattle.rank_tables.specs.Instance.{Lists, pair_count, pair_at, one_sided}
 use Rattle.rank_tables.specs.WellFormed.{names_of_residents, names_of_hospitals}
@@ -12,6 +11,7 @@ use Rattle.stability_audit.specs.declared.verdict.Verdict.{Verdict as Audit}
 use Rattle.stability_audit.specs.declared.verdict.Verdict.TheVariants.{Stable, ResidentTwice, OverCapacity, Blocked}
 use Rattle.stability_audit.specs.Verdict.{verdict_of as audit_of}
 use Rattle.stability_model.specs.Model.{rows}
+use Rattle.proof_lines.specs.Texts.{bound_text}
 use Rattle.proof_lines.specs.declared.line.Claim.{Claim}
 use Rattle.proof_lines.specs.declared.line.Claim.TheVariants.{Bounds, Unsat, Nothing}
 use Rattle.proof_rules.specs.Refusals as why
@@ -164,15 +164,10 @@ proof_kind_text why.WrongCount = codes "WrongCount"
 abbrev pub proof_refusal_report : RefusalAt → List ℕ
 proof_refusal_report r = codes "proof refused line " ++ place_line r.line (proof_kind_text r.why)
 
--- a number, or a word where there is none
-abbrev pub number_or : List ℕ → Option ℤ → List ℕ
-number_or word None = word
-number_or word (Some z) = signed_decimal z
-
 -- the report on a proof that bounds the sizes of weakly stable matchings: the most that there can be, and a size that one has
 abbrev pub sizes_report : Option ℤ → Option ℤ → List ℕ
 sizes_report bound found =
-    line (codes "accepted") ++ value_line (codes "bound") (number_or (codes "none") bound) ++ value_line (codes "found") (number_or (codes "none") found)
+    line (codes "accepted") ++ value_line (codes "bound") (bound_text (codes "none") bound) ++ value_line (codes "found") (bound_text (codes "none") found)
 
 -- the report on what a valid proof claims of an instance's weakly stable matchings; the objective is minus the number of pairs
 abbrev pub verify_report : Claim → List ℕ
@@ -183,7 +178,7 @@ verify_report Nothing = sizes_report None None
 -- the report on a proof that bounds the objective: at least the lower number at each point, and at most the upper one at some
 abbrev pub points_report : Option ℤ → Option ℤ → List ℕ
 points_report lower upper =
-    line (codes "accepted") ++ value_line (codes "lower") (number_or (codes "-INF") lower) ++ value_line (codes "upper") (number_or (codes "INF") upper)
+    line (codes "accepted") ++ value_line (codes "lower") (bound_text (codes "-INF") lower) ++ value_line (codes "upper") (bound_text (codes "INF") upper)
 
 -- the report on what a valid proof claims of the points of a formula
 abbrev pub check_report : Claim → List ℕ

@@ -9,7 +9,7 @@ use Rattle.hrt_base.specs.World.{World, Content}
 use Rattle.hrt_inputs.specs.Taken.{IsTaken}
 use Rattle.hrt_cli.specs.declared.status.Status.{Status}
 use Rattle.hrt_cli.specs.declared.status.Status.TheVariants.{Done, Misused, InstanceRefused, ReadFault, WriteFault, NoMemory, LimitExceeded, ProofRefused, AuditNo, Bounded, PairsRefused}
-use Rattle.hrt_cli.specs.Answers.{CutShort, IsReadOut, LeavesFronts, SendsNothing, audits_pairs, is_verdict_of, judges_proof, may_be_open, reads_instance}
+use Rattle.hrt_cli.specs.Answers.{CutShort, IsReadOut, LeavesFronts, ReadFailed, audits_pairs, is_verdict_of, judges_proof, may_be_open, reads_instance}
 use Rattle.hrt_cli.specs.Outputs.{SendsAll, is_output_name, outputs_of}
 use Rattle.hrt_cli.specs.Reports.{IsReport, audit_report, bound_report, check_report, count_line, line, match_lines, model_report, sizes_report, solve_report}
 use Rattle.hrt_cli.specs.Requests as ask
@@ -48,12 +48,10 @@ pub record Reported (told : Type 0) (request : Option Request) (status : Status)
   pub closed : (port : Port) → new.begun port ≡ Writing → ⊥
   pub reported : told → IsReported request status old new
 
--- the words ask for something, but a read failed, no output is begun, nothing was sent, and the files are as they were
+-- the words ask for something, but a read failed before anything was written
 pub record Unread (told : Type 0) (request : Option Request) (old new : World) : Type 0 where
   pub understood : request ≡ None → ⊥
-  pub rose : Rose old.read_faults new.read_faults
-  pub writers : (port : Port) → new.begun port ≡ Writing → port ≡ Report
-  pub nothing : told → SendsNothing old.content new.content
+  pub failed : ReadFailed told old new
 
 -- the words ask for something, but nothing was sent, or fronts of the outputs, and no byte of the report
 pub record OutOfMemory (told : Type 0) (request : Option Request) (old new : World) : Type 0 where

@@ -1,6 +1,7 @@
 // The text of a report.
 ghost use Rattle.std.specs.Prelude.{◌≡◌, ◌++◌, [], codes, OnOk};
-ghost use Rattle.hrt_cli.specs.Reports.{count_line, instance_lines, line, names_line, number_or, pair_line, place_line, value_line};
+ghost use Rattle.proof_lines.specs.Texts.{bound_text};
+ghost use Rattle.hrt_cli.specs.Reports.{count_line, instance_lines, line, names_line, pair_line, place_line, value_line};
 ghost use Rattle.rank_tables.specs.Tables.{IsPairNo};
 
 use hrt_base::{NoMemory, PairNo};
@@ -80,7 +81,7 @@ impl Report {
         number: Option<i128>,
         other: &str,
     ) -> Result<(), NoMemory>
-        ensures { OnOk result (self.new ≡ self.old ++ value_line word.now (number_or other.now number)) }
+        ensures { OnOk result (self.new ≡ self.old ++ value_line word.now (bound_text other.now number)) }
     {
         let Some(number) = number else {
             return self.push_value(word, other);

@@ -1,35 +1,18 @@
 -- What the reading of a formula comes to.
-use Rattle.std.specs.Prelude.{◌≡◌, ◌⊎◌, ℕ, List, [], Some, Result, Ok, Err}
-use Rattle.hrt_base.specs.declared.port.Port.{Port}
+use Rattle.std.specs.Prelude.{◌≡◌, ℕ, List, Result, Err}
 use Rattle.hrt_base.specs.declared.port.Port.TheVariants.{Model}
-use Rattle.hrt_base.specs.declared.host.Begun.TheVariants.{Reading}
-use Rattle.hrt_base.specs.World.{World, put, with_rest}
+use Rattle.hrt_base.specs.World.{World}
 use Rattle.pb_rows.specs.Formula.{Formula}
 use Rattle.opb_text.specs.declared.refusal.OpbRefusal.{OpbRefusal}
 use Rattle.opb_text.specs.declared.refusal.OpbRefusal.TheVariants as opb
-use Rattle.hrt_inputs.specs.declared.limit.Limit.{Limit}
 use Rattle.hrt_inputs.specs.declared.limit.Limit.TheVariants.{ModelBytes, Rows, Variables}
 use Rattle.hrt_inputs.specs.declared.stop.ModelKind.TheVariants.{Syntax, TooBig}
 use Rattle.hrt_inputs.specs.declared.stop.Stop.{Stop}
 use Rattle.hrt_inputs.specs.declared.stop.Stop.TheVariants.{Refused, Exceeded, PairsRefused, ModelRefused, ProofRefused, ReadFault, NoMemory}
 use Rattle.hrt_inputs.specs.Inputs.{OnlyRead}
-use Rattle.hrt_inputs.specs.Loading.{FailedToRead}
+use Rattle.hrt_inputs.specs.Loading.{FailedToRead, IsNotTaken}
 use Rattle.hrt_inputs.specs.Rejections.{Rejection, exceeded, model_refused}
 use Rattle.hrt_inputs.specs.Taken.{formula_in}
-
--- a file was read to its end, and its bytes are read as this formula
-pub record IsFormulaRead (told : Type 0) (port : Port) (name : List ℕ) (read : List ℕ → Result Formula Rejection) (f : Formula) (old new : World) : Type 0 where
-  pub only_read : OnlyRead told old new
-  pub begun : new.begun ≡ put port Reading old.begun
-  pub content : told → new.content ≡ with_rest port [] old.content
-  pub spelled : told → (bytes : List ℕ) × (old.content.file name ≡ Some bytes) × (read bytes ≡ Ok f)
-
--- a file was read to its end, or further than its limit, and is not taken
-pub record IsFormulaRejected (told : Type 0) (port : Port) (name : List ℕ) (limit : Limit) (read : List ℕ → Result Formula Rejection) (rejection : Rejection) (old new : World) : Type 0 where
-  pub only_read : OnlyRead told old new
-  pub begun : new.begun ≡ put port Reading old.begun
-  pub out : told → (new.content.rest port ≡ []) ⊎ (rejection ≡ exceeded limit)
-  pub due : told → (bytes : List ℕ) × (old.content.file name ≡ Some bytes) × (read bytes ≡ Err rejection)
 
 -- why a text of a formula is refused
 abbrev pub model_stop : OpbRefusal → Stop
@@ -52,9 +35,9 @@ StopsModelText formula NoMemory = Unit {0}
 -- the formula of a file could not be had, and this is why
 abbrev pub StopsModel : (told : Type 0) → List ℕ → Stop → World → World → Type 0
 StopsModel told name (Refused kind line) old new = ⊥
-StopsModel told name (Exceeded limit) old new = IsFormulaRejected told Model name ModelBytes formula_in (exceeded limit) old new
+StopsModel told name (Exceeded limit) old new = IsNotTaken told Model name ModelBytes formula_in (exceeded limit) old new
 StopsModel told name (PairsRefused kind line) old new = ⊥
-StopsModel told name (ModelRefused kind line) old new = IsFormulaRejected told Model name ModelBytes formula_in (model_refused kind line) old new
+StopsModel told name (ModelRefused kind line) old new = IsNotTaken told Model name ModelBytes formula_in (model_refused kind line) old new
 StopsModel told name (ProofRefused refusal) old new = ⊥
 StopsModel told name ReadFault old new = FailedToRead told old new
 StopsModel told name NoMemory old new = OnlyRead told old new

@@ -1,10 +1,11 @@
 -- What the loading of an instance and of pairs comes to.
-use Rattle.std.specs.Prelude.{◌≡◌, ◌≤◌, ◌⊎◌, ℕ, List, [], Some, Result, Ok, Err}
+use Rattle.std.specs.Prelude.{◌≡◌, ◌⊎◌, ℕ, List, [], Some, Result, Ok, Err}
+use Rattle.hrt_base.specs.declared.port.Port.{Port}
 use Rattle.hrt_base.specs.declared.port.Port.TheVariants.{Instance, Pairs}
 use Rattle.hrt_base.specs.declared.host.Begun.TheVariants.{Reading}
 use Rattle.hrt_base.specs.Calls.{Rose}
 use Rattle.hrt_base.specs.World.{World, put, with_rest}
-use Rattle.rank_tables.specs.Instance.{Lists, pair_count}
+use Rattle.rank_tables.specs.Instance.{Lists}
 use Rattle.hrt_reader.specs.Kinds.{number}
 use Rattle.hrt_reader.specs.PairsAnswer.{pairs_number}
 use Rattle.hrt_inputs.specs.declared.limit.Limit.{Limit}
@@ -12,7 +13,6 @@ use Rattle.hrt_inputs.specs.declared.limit.Limit.TheVariants.{InstanceBytes, Pai
 use Rattle.hrt_inputs.specs.declared.stop.Stop.{Stop}
 use Rattle.hrt_inputs.specs.declared.stop.Stop.TheVariants.{Refused, Exceeded, PairsRefused, ModelRefused, ProofRefused, ReadFault, NoMemory}
 use Rattle.hrt_inputs.specs.Inputs.{OnlyRead}
-use Rattle.hrt_inputs.specs.Limits.{most}
 use Rattle.hrt_inputs.specs.Rejections.{Rejection, refused, exceeded, pairs_refused}
 use Rattle.hrt_inputs.specs.Taken.{lists_in, of_few_terms, pairs_in, within}
 
@@ -26,20 +26,28 @@ StopsText lists (ProofRefused refusal) = ⊥
 StopsText lists ReadFault = ⊥
 StopsText lists NoMemory = Unit {0}
 
--- the file was read to its end and spells these lists, of no more pairs than the limit and no more terms than are taken
-pub record IsLoaded (told : Type 0) (name : List ℕ) (limit : Limit) (lists : Lists) (old new : World) : Type 0 where
+-- what is read in a file was read to its end on a port, and is this value
+pub record IsRead {A : Type 0} (told : Type 0) (port : Port) (name : List ℕ) (read : List ℕ → Result A Rejection) (value : A) (old new : World) : Type 0 where
   pub only_read : OnlyRead told old new
-  pub begun : new.begun ≡ put Instance Reading old.begun
-  pub content : told → new.content ≡ with_rest Instance [] old.content
-  pub few : pair_count lists ≤ most limit
-  pub spelled : told → (bytes : List ℕ) × (old.content.file name ≡ Some bytes) × (of_few_terms (within limit (lists_in bytes)) ≡ Ok lists)
+  pub begun : new.begun ≡ put port Reading old.begun
+  pub content : told → new.content ≡ with_rest port [] old.content
+  pub spelled : told → (bytes : List ℕ) × (old.content.file name ≡ Some bytes) × (read bytes ≡ Ok value)
 
--- the file was read to its end, or further than its limit, and is not taken
-pub record IsRejected (told : Type 0) (name : List ℕ) (limit : Limit) (rejection : Rejection) (old new : World) : Type 0 where
+-- a file was read on a port to its end, or further than its limit, and is not taken
+pub record IsNotTaken {A : Type 0} (told : Type 0) (port : Port) (name : List ℕ) (limit : Limit) (read : List ℕ → Result A Rejection) (rejection : Rejection) (old new : World) : Type 0 where
   pub only_read : OnlyRead told old new
-  pub begun : new.begun ≡ put Instance Reading old.begun
-  pub out : told → (new.content.rest Instance ≡ []) ⊎ (rejection ≡ exceeded InstanceBytes)
-  pub due : told → (bytes : List ℕ) × (old.content.file name ≡ Some bytes) × (of_few_terms (within limit (lists_in bytes)) ≡ Err rejection)
+  pub begun : new.begun ≡ put port Reading old.begun
+  pub content : told → new.content ≡ with_rest port (new.content.rest port) old.content
+  pub out : told → (new.content.rest port ≡ []) ⊎ (rejection ≡ exceeded limit)
+  pub due : told → (bytes : List ℕ) × (old.content.file name ≡ Some bytes) × (read bytes ≡ Err rejection)
+
+-- the file spells these lists, which have no more pairs than the limit and no more terms than are taken
+abbrev pub IsLoaded : (told : Type 0) → List ℕ → Limit → Lists → World → World → Type 0
+IsLoaded told name limit lists old new = IsRead told Instance name (λ bytes. of_few_terms (within limit (lists_in bytes))) lists old new
+
+-- the file is no instance that is taken under the limit
+abbrev pub IsRejected : (told : Type 0) → List ℕ → Limit → Rejection → World → World → Type 0
+IsRejected told name limit rejection old new = IsNotTaken told Instance name InstanceBytes (λ bytes. of_few_terms (within limit (lists_in bytes))) rejection old new
 
 -- reading failed
 pub record FailedToRead (told : Type 0) (old new : World) : Type 0 where
@@ -68,20 +76,13 @@ StopsPairsText pairs (ProofRefused refusal) = ⊥
 StopsPairsText pairs ReadFault = ⊥
 StopsPairsText pairs NoMemory = Unit {0}
 
--- the file was read to its end and spells these pairs of the instance
-pub record ArePairsLoaded (told : Type 0) (name : List ℕ) (lists : Lists) (pairs : List ℕ) (old new : World) : Type 0 where
-  pub only_read : OnlyRead told old new
-  pub begun : new.begun ≡ put Pairs Reading old.begun
-  pub content : told → new.content ≡ with_rest Pairs [] old.content
-  pub spelled : told → (bytes : List ℕ) × (old.content.file name ≡ Some bytes) × (pairs_in lists bytes ≡ Ok pairs)
+-- the file spells these pairs of the instance
+abbrev pub ArePairsLoaded : (told : Type 0) → List ℕ → Lists → List ℕ → World → World → Type 0
+ArePairsLoaded told name lists pairs old new = IsRead told Pairs name (pairs_in lists) pairs old new
 
--- the file was read to its end, or further than its limit, and is not taken
-pub record ArePairsRejected (told : Type 0) (name : List ℕ) (lists : Lists) (rejection : Rejection) (old new : World) : Type 0 where
-  pub only_read : OnlyRead told old new
-  pub begun : new.begun ≡ put Pairs Reading old.begun
-  pub content : told → new.content ≡ with_rest Pairs (new.content.rest Pairs) old.content
-  pub out : told → (new.content.rest Pairs ≡ []) ⊎ (rejection ≡ exceeded PairsBytes)
-  pub due : told → (bytes : List ℕ) × (old.content.file name ≡ Some bytes) × (pairs_in lists bytes ≡ Err rejection)
+-- the file is no text of pairs of the instance that is taken
+abbrev pub ArePairsRejected : (told : Type 0) → List ℕ → Lists → Rejection → World → World → Type 0
+ArePairsRejected told name lists rejection old new = IsNotTaken told Pairs name PairsBytes (pairs_in lists) rejection old new
 
 -- the pairs of a file could not be had, and this is why
 abbrev pub StopsLoadingPairs : (told : Type 0) → List ℕ → Lists → Stop → World → World → Type 0

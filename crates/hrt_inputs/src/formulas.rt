@@ -4,7 +4,8 @@ ghost use Rattle.opb_text.specs.Limits.{IsWithinLimits};
 ghost use Rattle.hrt_inputs.specs.declared.limit.Limit.TheVariants.{ModelBytes};
 ghost use Rattle.hrt_inputs.specs.Inputs.{BeginsAtMost, IsAt, KeepsPorts};
 ghost use Rattle.hrt_inputs.specs.Limits.{most};
-ghost use Rattle.hrt_inputs.specs.Formulas.{IsFormulaRead, StopsModel, StopsModelText};
+ghost use Rattle.hrt_inputs.specs.Loading.{IsRead};
+ghost use Rattle.hrt_inputs.specs.Formulas.{StopsModel, StopsModelText};
 ghost use Rattle.hrt_inputs.specs.Taken.{formula_in};
 
 use crate::input::read_file;
@@ -16,7 +17,7 @@ use std::alloc::Global;
 /// The formula of the model in a file.
 pub fn load_formula<H: Host>(alloc: Global, host: &mut H, name: &str) -> Result<Formula, Stop>
     requires { (H.world host.old).begun Port.Model ≡ Begun.Idle }
-    ensures read { IfOk result (λ f. IsFormulaRead H.told Port.Model name.now formula_in f (H.world host.old) (H.world host.new)) }
+    ensures read { IfOk result (λ f. IsRead H.told Port.Model name.now formula_in f (H.world host.old) (H.world host.new)) }
     ensures within { IfOk result IsWithinLimits }
     ensures stopped { IfErr result (λ stop. StopsModel H.told name.now stop (H.world host.old) (H.world host.new)) }
     ensures begun { BeginsAtMost Port.Model (H.world host.old) (H.world host.new) }

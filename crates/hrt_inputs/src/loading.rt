@@ -30,6 +30,7 @@ pub fn load<H: Host>(
     requires few { most limit ≤ most_pairs }
     requires on_pairs { IsOnPairs limit }
     ensures loaded { IfOk result (λ lists. IsLoaded H.told name.now limit lists (H.world host.old) (H.world host.new)) }
+    ensures few { IfOk result (λ lists. pair_count lists ≤ most limit) }
     ensures stopped { IfErr result (λ stop. StopsLoading H.told name.now limit stop (H.world host.old) (H.world host.new)) }
     ensures begun { BeginsAtMost Port.Instance (H.world host.old) (H.world host.new) }
     ensures others { KeepsPorts H.told (IsAt Port.Instance) (H.world host.old) (H.world host.new) }

@@ -2,7 +2,12 @@
 use Rattle.std.specs.Prelude.{◌≡◌, ◌⊎◌, ◌≤◌, ◌<◌, ◌↔◌, ℕ, List, [], length, Some}
 use Rattle.hrt_base.specs.declared.port.Port.{Port}
 use Rattle.hrt_base.specs.declared.host.Begun.TheVariants.{Reading, Writing}
+use Rattle.hrt_base.specs.declared.failure.ReadEnd.{ReadEnd}
+use Rattle.hrt_base.specs.declared.failure.ReadEnd.TheVariants as end
 use Rattle.hrt_base.specs.World.{World, Content, put, with_rest}
+use Rattle.hrt_inputs.specs.declared.limit.Limit.{Limit}
+use Rattle.hrt_inputs.specs.declared.stop.Stop.{Stop}
+use Rattle.hrt_inputs.specs.declared.stop.Stop.TheVariants.{Exceeded, NoMemory, ReadFault}
 
 -- the content but for what is left to read
 abbrev pub but_for_rest : Content → Content → Content
@@ -42,3 +47,9 @@ pub record KeepsPorts (told : Type 0) (But : Port → Type 0) (old new : World) 
   pub name : told → (p : Port) → (But p → ⊥) → new.content.name p ≡ old.content.name p
   pub rest : told → (p : Port) → (But p → ⊥) → new.content.rest p ≡ old.content.rest p
   pub sent : told → (p : Port) → (But p → ⊥) → new.content.sent p ≡ old.content.sent p
+
+-- why a file was not read, where this is the limit on its bytes
+abbrev pub unread : ReadEnd → Limit → Stop
+unread end.TooLong limit = Exceeded limit
+unread end.Failed limit = ReadFault
+unread end.NoMemory limit = NoMemory

@@ -8,9 +8,9 @@ ghost use Rattle.hrt_inputs.specs.Loading.{IsRead};
 ghost use Rattle.hrt_inputs.specs.Formulas.{StopsModel, StopsModelText};
 ghost use Rattle.hrt_inputs.specs.Taken.{formula_in};
 
-use crate::input::read_file;
+use crate::input::{read_file, unread};
 use crate::{Limit, Stop};
-use hrt_base::{Begun, Host, Port, ReadEnd};
+use hrt_base::{Begun, Host, Port};
 use opb_text::{Formula, read_opb};
 use std::alloc::Global;
 
@@ -31,9 +31,7 @@ pub fn load_formula<H: Host>(alloc: Global, host: &mut H, name: &str) -> Result<
         Limit::ModelBytes.most() as usize,
     ) {
         Ok(bytes) => formula_from(alloc, &bytes),
-        Err(ReadEnd::TooLong) => Err(Stop::Exceeded(Limit::ModelBytes)),
-        Err(ReadEnd::Failed) => Err(Stop::ReadFault),
-        Err(ReadEnd::NoMemory) => Err(Stop::NoMemory),
+        Err(end) => Err(unread(end, Limit::ModelBytes)),
     }
 }
 

@@ -1,8 +1,9 @@
 // Files that are read whole.
 ghost use Rattle.std.specs.Prelude.{◌≡◌, ◌≤◌, length, IfOk, OnErr, IsErrOf};
 ghost use Rattle.hrt_base.specs.Calls.{Rose};
-ghost use Rattle.hrt_inputs.specs.Inputs.{BeginsAtMost, IsAt, IsTooLong, KeepsPorts, OnlyRead, WasRead};
+ghost use Rattle.hrt_inputs.specs.Inputs.{BeginsAtMost, IsAt, IsTooLong, KeepsPorts, OnlyRead, WasRead, unread};
 
+use crate::{Limit, Stop};
 use hrt_base::{Begun, Host, Port, ReadEnd, read_all};
 use std::alloc::Global;
 
@@ -26,4 +27,15 @@ pub(crate) fn read_file<H: Host>(
 {
     host.begin_read(port, name)?;
     read_all(alloc, host, port, limit)
+}
+
+/// Why a file was not read: it failed, memory was wanting, or this limit was passed.
+pub(crate) fn unread(end: ReadEnd, limit: Limit) -> Stop
+    ensures { result ≡ unread end limit }
+{
+    match end {
+        ReadEnd::TooLong => Stop::Exceeded(limit),
+        ReadEnd::Failed => Stop::ReadFault,
+        ReadEnd::NoMemory => Stop::NoMemory,
+    }
 }

@@ -12,9 +12,9 @@ ghost use Rattle.hrt_inputs.specs.Loading.{ArePairsLoaded, IsLoaded, StopsLoadin
 ghost use Rattle.hrt_inputs.specs.Rejections.{exceeded};
 ghost use Rattle.hrt_inputs.specs.Taken.{lists_in, of_few_terms, pairs_in, within};
 
-use crate::input::read_file;
+use crate::input::{read_file, unread};
 use crate::{Limit, Stop};
-use hrt_base::{Begun, Host, PairNo, Port, ReadEnd};
+use hrt_base::{Begun, Host, PairNo, Port};
 use hrt_reader::{LimitKind, PairsRefusal, ReadRefusal, read_instance, read_pairs};
 use rank_tables::Instance;
 use std::alloc::Global;
@@ -43,9 +43,7 @@ pub fn load<H: Host>(
         Limit::InstanceBytes.most() as usize,
     ) {
         Ok(bytes) => instance_in(alloc, &bytes, limit),
-        Err(ReadEnd::TooLong) => Err(Stop::Exceeded(Limit::InstanceBytes)),
-        Err(ReadEnd::Failed) => Err(Stop::ReadFault),
-        Err(ReadEnd::NoMemory) => Err(Stop::NoMemory),
+        Err(end) => Err(unread(end, Limit::InstanceBytes)),
     }
 }
 
@@ -110,9 +108,7 @@ pub fn load_pairs<H: Host>(
         Limit::PairsBytes.most() as usize,
     ) {
         Ok(bytes) => pairs_in(alloc, &bytes, inst),
-        Err(ReadEnd::TooLong) => Err(Stop::Exceeded(Limit::PairsBytes)),
-        Err(ReadEnd::Failed) => Err(Stop::ReadFault),
-        Err(ReadEnd::NoMemory) => Err(Stop::NoMemory),
+        Err(end) => Err(unread(end, Limit::PairsBytes)),
     }
 }
 

@@ -1,5 +1,5 @@
 //! Small instances by a fixed rule, and the definition of weak stability, written out plainly once more.
-ghost use Rattle.std.specs.Prelude.{◌<◌, ◌≤◌};
+ghost use Rattle.std.specs.Prelude.{◌<◌, ◌≤◌, IfSome};
 
 use hrt_base::NoMemory;
 use std::alloc::Global;
@@ -117,26 +117,54 @@ impl Small {
         resident_wants && hospital_wants
     }
 
-    // The report of an audit, from the definition.
-    pub fn report(&self, alloc: Global, chosen: &Chosen) -> Result<Vec<u8>, NoMemory> {
-        for r in 0..3 {
-            if hospitals_of(chosen, r) >= 2 {
-                return line(alloc, &["resident-twice ", RESIDENTS[r]]);
-            }
-        }
+    // The first hospital above its capacity.
+    fn first_over(&self, chosen: &Chosen) -> Option<usize>
+        ensures { IfSome result (λ h. h < 3) }
+    {
         for h in 0..3 {
             if residents_at(chosen, h) > self.posts_of(h) {
-                return line(alloc, &["over-capacity ", HOSPITALS[h]]);
+                return Some(h);
             }
         }
-        for r in 0..3 {
-            for rank in 1..4u32 {
-                for h in 0..3 {
-                    if self.by_resident[r][h] == rank && self.blocks(chosen, r, h) {
-                        return line(alloc, &["blocked ", RESIDENTS[r], " ", HOSPITALS[h]]);
-                    }
+        None
+    }
+
+    // The first hospital of a resident's list with which it blocks.
+    fn first_blocking_with(&self, chosen: &Chosen, r: usize) -> Option<usize>
+        requires { r < 3 }
+        ensures { IfSome result (λ h. h < 3) }
+    {
+        for rank in 1..4u32 {
+            for h in 0..3 {
+                if self.by_resident[r][h] == rank && self.blocks(chosen, r, h) {
+                    return Some(h);
                 }
             }
+        }
+        None
+    }
+
+    // The report that a pair blocks, of the first resident that does so.
+    fn blocked(&self, alloc: Global, chosen: &Chosen) -> Result<Option<Vec<u8>>, NoMemory> {
+        for r in 0..3 {
+            if let Some(h) = self.first_blocking_with(chosen, r) {
+                let report = line(alloc, &["blocked ", RESIDENTS[r], " ", HOSPITALS[h]])?;
+                return Ok(Some(report));
+            }
+        }
+        Ok(None)
+    }
+
+    /// The report of an audit, from the definition.
+    pub fn report(&self, alloc: Global, chosen: &Chosen) -> Result<Vec<u8>, NoMemory> {
+        if let Some(r) = first_twice(chosen) {
+            return line(alloc, &["resident-twice ", RESIDENTS[r]]);
+        }
+        if let Some(h) = self.first_over(chosen) {
+            return line(alloc, &["over-capacity ", HOSPITALS[h]]);
+        }
+        if let Some(report) = self.blocked(alloc, chosen)? {
+            return Ok(report);
         }
         let size = hospitals_of(chosen, 0) + hospitals_of(chosen, 1) + hospitals_of(chosen, 2);
         line(
@@ -147,6 +175,18 @@ impl Small {
             ],
         )
     }
+}
+
+// The first resident in two pairs.
+fn first_twice(chosen: &Chosen) -> Option<usize>
+    ensures { IfSome result (λ r. r < 3) }
+{
+    for r in 0..3 {
+        if hospitals_of(chosen, r) >= 2 {
+            return Some(r);
+        }
+    }
+    None
 }
 
 fn hospitals_of(chosen: &Chosen, r: usize) -> u32

@@ -19,7 +19,7 @@ use Rattle.hrt_cli.specs.Answers.{IsCutShort, LeavesFronts, SendsDue, SendsNothi
 use Rattle.hrt_cli.specs.Outputs.{Output, SendsAll, files_after, is_output_name, model_outputs, outputs_of, proof_outputs}
 use Rattle.hrt_cli.specs.Reports.{IsReport}
 use Rattle.hrt_cli.specs.Requests.{Request, solve, audit, model, verify, check, bound, quick}
-use Rattle.hrt_cli.specs.Runs.{EndsAs, IsDecided, IsDue, IsReported, Reported, KeepsFiles, KeepsOthers, PrintsBest, has_report, is_code_of, keeps_files}
+use Rattle.hrt_cli.specs.Runs.{EndsAs, IsDecided, IsDue, IsReported, Reported, KeepsFiles, KeepsOtherFiles, PrintsBest, has_report, is_code_of, keeps_files}
 use Rattle.hrt_cli.specs.Statuses.{code_of, status_of}
 use Rattle.hrt_cli.specs.Verdicts.{ComesTo, Files, Verdict, misused, rejected, solved, audited, modeled, verified, checked, bounded, matched, due as due_for, solve_verdict}
 use Rattle.hrt_cli.proofs.NamedOutputs.{not_stored}
@@ -307,7 +307,7 @@ none_of_first zero outputs name none = tt
 none_of_first (suc k) [] name none = tt
 none_of_first (suc k) (o ∷ outputs) name none = (none.0, none_of_first k outputs name none.1)
 
-kept_left : (request : Option Request) (old new : World) → LeavesFronts request old.content new.content → KeepsOthers request old.content new.content
+kept_left : (request : Option Request) (old new : World) → LeavesFronts request old.content new.content → KeepsOtherFiles request old.content new.content
 kept_left request old new left name e = by left.sends
   where
     by : SendsNothing old.content new.content ⊎ SendsDue request old.content new.content → new.content.file name ≡ old.content.file name
@@ -317,17 +317,17 @@ kept_left request old new left name e = by left.sends
         parts.sends.files name
         ∙ kept_else (take parts.sends.whole outputs) old.content.file name (none_of_first parts.sends.whole outputs name (unnamed request parts.verdict name e))
 
-kept_sent : (request : Option Request) (verdict : Verdict) (old new : World) → SendsAll (outputs_of request verdict) old.content new.content → KeepsOthers request old.content new.content
+kept_sent : (request : Option Request) (verdict : Verdict) (old new : World) → SendsAll (outputs_of request verdict) old.content new.content → KeepsOtherFiles request old.content new.content
 kept_sent request verdict old new sends name e = sends.files name ∙ kept_else (outputs_of request verdict) old.content.file name (unnamed request verdict name e)
 
-kept_cut : (request : Option Request) (old new : World) → IsCutShort request old new → KeepsOthers request old.content new.content
+kept_cut : (request : Option Request) (old new : World) → IsCutShort request old new → KeepsOtherFiles request old.content new.content
 kept_cut request old new (inl before) = kept_left request old new before.leaves
 kept_cut request old new (inr report) = kept_sent request report.verdict old new report.sends
 
-kept_reported : (request : Option Request) (status : Status) (old new : World) → IsReported request status old new → KeepsOthers request old.content new.content
+kept_reported : (request : Option Request) (status : Status) (old new : World) → IsReported request status old new → KeepsOtherFiles request old.content new.content
 kept_reported request status old new told_of = kept_sent request told_of.verdict old new told_of.sends
 
-pub others_kept : (told : Type 0) (request : Option Request) (status : Status) (old new : World) → EndsAs told request status old new → told → KeepsOthers request old.content new.content
+pub others_kept : (told : Type 0) (request : Option Request) (status : Status) (old new : World) → EndsAs told request status old new → told → KeepsOtherFiles request old.content new.content
 others_kept told request ReadFault old new ends t name e = (ends.failed.nothing t).files name
 others_kept told request NoMemory old new ends t name e = kept_left request old new (ends.fronts t) name e
 others_kept told request WriteFault old new ends t name e = kept_cut request old new (ends.cut_short t) name e

@@ -11,7 +11,7 @@ use Rattle.hrt_solve.specs.declared.ends.SolveEnd.{SolveEnd}
 use Rattle.hrt_solve.specs.Writing.{IsBounded, IsSolvedQuickly, SentBoth, SentFrontBehind, SentWhole, StopsWriting}
 use Rattle.hrt_inputs.specs.Inputs.{IsAt, KeepsPorts}
 use Rattle.hrt_inputs.proofs.KeptPorts.{keeps_all, keeps_fewer, keeps_same, keeps_then, put_at_others}
-use Rattle.hrt_cli.specs.Ports.{IsModelOrProof, IsPortOf, LeavesOthers}
+use Rattle.hrt_cli.specs.Ports.{IsModelOrProof, IsPortOf, KeepsOtherPorts}
 use Rattle.hrt_cli.specs.Requests.{Request, solve, audit, model, verify, check, bound, quick}
 
 -- ---- commands that only read
@@ -21,25 +21,25 @@ then_at : (told : Type 0) (First Then But : Port → Type 0) (old mid new : Worl
     → KeepsPorts told But old new
 then_at told First Then But old mid new f g a b = keeps_then told But old mid new (keeps_fewer told First But old mid f a) (keeps_fewer told Then But mid new g b)
 
-pub solve_keeps : (told : Type 0) (i : List ℕ) (old new : World) → KeepsPorts told (IsAt Instance) old new → LeavesOthers told (Some (solve i)) old new
+pub solve_keeps : (told : Type 0) (i : List ℕ) (old new : World) → KeepsPorts told (IsAt Instance) old new → KeepsOtherPorts told (Some (solve i)) old new
 solve_keeps told i old new a = record { others = keeps_fewer told (IsAt Instance) (IsPortOf (Some (solve i))) old new (λ p e. inl e) a }
 
-pub audit_keeps_one : (told : Type 0) (i q : List ℕ) (old new : World) → KeepsPorts told (IsAt Instance) old new → LeavesOthers told (Some (audit i q)) old new
+pub audit_keeps_one : (told : Type 0) (i q : List ℕ) (old new : World) → KeepsPorts told (IsAt Instance) old new → KeepsOtherPorts told (Some (audit i q)) old new
 audit_keeps_one told i q old new a = record { others = keeps_fewer told (IsAt Instance) (IsPortOf (Some (audit i q))) old new (λ p e. inl e) a }
 
-pub audit_keeps_two : (told : Type 0) (i q : List ℕ) (old mid new : World) → KeepsPorts told (IsAt Instance) old mid → KeepsPorts told (IsAt Pairs) mid new → LeavesOthers told (Some (audit i q)) old new
+pub audit_keeps_two : (told : Type 0) (i q : List ℕ) (old mid new : World) → KeepsPorts told (IsAt Instance) old mid → KeepsPorts told (IsAt Pairs) mid new → KeepsOtherPorts told (Some (audit i q)) old new
 audit_keeps_two told i q old mid new a b = record { others = then_at told (IsAt Instance) (IsAt Pairs) (IsPortOf (Some (audit i q))) old mid new (λ p e. inl e) (λ p e. inr (inl e)) a b }
 
-pub verify_keeps_one : (told : Type 0) (i q : List ℕ) (old new : World) → KeepsPorts told (IsAt Instance) old new → LeavesOthers told (Some (verify i q)) old new
+pub verify_keeps_one : (told : Type 0) (i q : List ℕ) (old new : World) → KeepsPorts told (IsAt Instance) old new → KeepsOtherPorts told (Some (verify i q)) old new
 verify_keeps_one told i q old new a = record { others = keeps_fewer told (IsAt Instance) (IsPortOf (Some (verify i q))) old new (λ p e. inl e) a }
 
-pub verify_keeps_two : (told : Type 0) (i q : List ℕ) (old mid new : World) → KeepsPorts told (IsAt Instance) old mid → KeepsPorts told (IsAt Proof) mid new → LeavesOthers told (Some (verify i q)) old new
+pub verify_keeps_two : (told : Type 0) (i q : List ℕ) (old mid new : World) → KeepsPorts told (IsAt Instance) old mid → KeepsPorts told (IsAt Proof) mid new → KeepsOtherPorts told (Some (verify i q)) old new
 verify_keeps_two told i q old mid new a b = record { others = then_at told (IsAt Instance) (IsAt Proof) (IsPortOf (Some (verify i q))) old mid new (λ p e. inl e) (λ p e. inr (inl e)) a b }
 
-pub check_keeps_one : (told : Type 0) (m q : List ℕ) (old new : World) → KeepsPorts told (IsAt Model) old new → LeavesOthers told (Some (check m q)) old new
+pub check_keeps_one : (told : Type 0) (m q : List ℕ) (old new : World) → KeepsPorts told (IsAt Model) old new → KeepsOtherPorts told (Some (check m q)) old new
 check_keeps_one told m q old new a = record { others = keeps_fewer told (IsAt Model) (IsPortOf (Some (check m q))) old new (λ p e. inl e) a }
 
-pub check_keeps_two : (told : Type 0) (m q : List ℕ) (old mid new : World) → KeepsPorts told (IsAt Model) old mid → KeepsPorts told (IsAt Proof) mid new → LeavesOthers told (Some (check m q)) old new
+pub check_keeps_two : (told : Type 0) (m q : List ℕ) (old mid new : World) → KeepsPorts told (IsAt Model) old mid → KeepsPorts told (IsAt Proof) mid new → KeepsOtherPorts told (Some (check m q)) old new
 check_keeps_two told m q old mid new a b = record { others = then_at told (IsAt Model) (IsAt Proof) (IsPortOf (Some (check m q))) old mid new (λ p e. inl e) (λ p e. inr (inl e)) a b }
 
 -- ---- writing
@@ -89,10 +89,10 @@ pub begun_sealed_keeps : (told : Type 0) (port : Port) (name text : List ℕ) (o
 begun_sealed_keeps told port name text old mid far new begun sent shut =
     keeps_then told (IsAt port) old far new (keeps_then told (IsAt port) old mid far (started_keeps told port name old mid begun) (sent_keeps told port text mid far sent)) (sealed_keeps told (IsAt port) port far new shut)
 
-pub model_keeps_one : (told : Type 0) (i m : List ℕ) (old new : World) → KeepsPorts told (IsAt Instance) old new → LeavesOthers told (Some (model i m)) old new
+pub model_keeps_one : (told : Type 0) (i m : List ℕ) (old new : World) → KeepsPorts told (IsAt Instance) old new → KeepsOtherPorts told (Some (model i m)) old new
 model_keeps_one told i m old new a = record { others = keeps_fewer told (IsAt Instance) (IsPortOf (Some (model i m))) old new (λ p e. inl e) a }
 
-pub model_keeps_two : (told : Type 0) (i m : List ℕ) (old mid new : World) → KeepsPorts told (IsAt Instance) old mid → KeepsPorts told (IsAt Model) mid new → LeavesOthers told (Some (model i m)) old new
+pub model_keeps_two : (told : Type 0) (i m : List ℕ) (old mid new : World) → KeepsPorts told (IsAt Instance) old mid → KeepsPorts told (IsAt Model) mid new → KeepsOtherPorts told (Some (model i m)) old new
 model_keeps_two told i m old mid new a b = record { others = then_at told (IsAt Instance) (IsAt Model) (IsPortOf (Some (model i m))) old mid new (λ p e. inl e) (λ p e. inr (inl e)) a b }
 
 -- ---- the model and a proof
@@ -128,16 +128,16 @@ stopped_writing told Is lists old new (inr part) = by part.sent
 pub stopped_keeps : (told : Type 0) (Is : List ℕ → Type 0) (lists : Lists) (old mid new : World) → KeepsPorts told IsModelOrProof old mid → StopsWriting told Is lists mid new → KeepsPorts told IsModelOrProof old new
 stopped_keeps told Is lists old mid new a stops = keeps_then told IsModelOrProof old mid new a (stopped_writing told Is lists mid new stops)
 
-pub bound_keeps_one : (told : Type 0) (i m q : List ℕ) (old new : World) → KeepsPorts told (IsAt Instance) old new → LeavesOthers told (Some (bound i m q)) old new
+pub bound_keeps_one : (told : Type 0) (i m q : List ℕ) (old new : World) → KeepsPorts told (IsAt Instance) old new → KeepsOtherPorts told (Some (bound i m q)) old new
 bound_keeps_one told i m q old new a = record { others = keeps_fewer told (IsAt Instance) (IsPortOf (Some (bound i m q))) old new (λ p e. inl e) a }
 
-pub bound_keeps_two : (told : Type 0) (i m q : List ℕ) (old mid new : World) → KeepsPorts told (IsAt Instance) old mid → KeepsPorts told IsModelOrProof mid new → LeavesOthers told (Some (bound i m q)) old new
+pub bound_keeps_two : (told : Type 0) (i m q : List ℕ) (old mid new : World) → KeepsPorts told (IsAt Instance) old mid → KeepsPorts told IsModelOrProof mid new → KeepsOtherPorts told (Some (bound i m q)) old new
 bound_keeps_two told i m q old mid new a b = record { others = then_at told (IsAt Instance) IsModelOrProof (IsPortOf (Some (bound i m q))) old mid new (λ p e. inl e) (λ p e. inr (inl e)) a b }
 
-pub quick_keeps_one : (told : Type 0) (i m q : List ℕ) (old new : World) → KeepsPorts told (IsAt Instance) old new → LeavesOthers told (Some (quick i m q)) old new
+pub quick_keeps_one : (told : Type 0) (i m q : List ℕ) (old new : World) → KeepsPorts told (IsAt Instance) old new → KeepsOtherPorts told (Some (quick i m q)) old new
 quick_keeps_one told i m q old new a = record { others = keeps_fewer told (IsAt Instance) (IsPortOf (Some (quick i m q))) old new (λ p e. inl e) a }
 
-pub quick_keeps_two : (told : Type 0) (i m q : List ℕ) (old mid new : World) → KeepsPorts told (IsAt Instance) old mid → KeepsPorts told IsModelOrProof mid new → LeavesOthers told (Some (quick i m q)) old new
+pub quick_keeps_two : (told : Type 0) (i m q : List ℕ) (old mid new : World) → KeepsPorts told (IsAt Instance) old mid → KeepsPorts told IsModelOrProof mid new → KeepsOtherPorts told (Some (quick i m q)) old new
 quick_keeps_two told i m q old mid new a b = record { others = then_at told (IsAt Instance) IsModelOrProof (IsPortOf (Some (quick i m q))) old mid new (λ p e. inl e) (λ p e. inr (inl e)) a b }
 
 -- ---- the report
@@ -153,13 +153,13 @@ report_is (Some (check m q)) p e = inr (inr e)
 report_is (Some (bound i m q)) p e = inr (inr e)
 report_is (Some (quick i m q)) p e = inr (inr e)
 
-pub report_sent_keeps : (told : Type 0) (request : Option Request) (text : List ℕ) (old mid new : World) → LeavesOthers told request old mid → SentWhole told Report text mid new → LeavesOthers told request old new
+pub report_sent_keeps : (told : Type 0) (request : Option Request) (text : List ℕ) (old mid new : World) → KeepsOtherPorts told request old mid → SentWhole told Report text mid new → KeepsOtherPorts told request old new
 report_sent_keeps told request text old mid new a sent =
     record { others = keeps_then told (IsPortOf request) old mid new a.others (keeps_fewer told (IsAt Report) (IsPortOf request) mid new (report_is request) (whole_keeps told Report text mid new sent)) }
 
-pub report_part_keeps : (told : Type 0) (request : Option Request) (text : List ℕ) (old mid new : World) → LeavesOthers told request old mid → SentPart told Report text mid new → LeavesOthers told request old new
+pub report_part_keeps : (told : Type 0) (request : Option Request) (text : List ℕ) (old mid new : World) → KeepsOtherPorts told request old mid → SentPart told Report text mid new → KeepsOtherPorts told request old new
 report_part_keeps told request text old mid new a sent =
     record { others = keeps_then told (IsPortOf request) old mid new a.others (keeps_fewer told (IsAt Report) (IsPortOf request) mid new (report_is request) (sent_keeps told Report _ mid new sent.part.1)) }
 
-pub nothing_asked_keeps : (told : Type 0) (request : Option Request) (w : World) → LeavesOthers told request w w
+pub nothing_asked_keeps : (told : Type 0) (request : Option Request) (w : World) → KeepsOtherPorts told request w w
 nothing_asked_keeps told request w = record { others = keeps_all told (IsPortOf request) w }

@@ -51,7 +51,7 @@ IsPortOf (Some (bound instance file proof)) port = (port ≡ Instance) ⊎ IsMod
 IsPortOf (Some (quick instance file proof)) port = (port ≡ Instance) ⊎ IsModelOrProof port ⊎ (port ≡ Report)
 
 -- of the ports that the command doesn't use the name, what is left to read and what was sent are as they were
-pub record LeavesOthers (told : Type 0) (request : Option Request) (old new : World) : Type 0 where
+pub record KeepsOtherPorts (told : Type 0) (request : Option Request) (old new : World) : Type 0 where
   pub others : KeepsPorts told (IsPortOf request) old new
 
 -- a port that is begun for reading is that of an input

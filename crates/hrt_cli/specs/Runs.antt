@@ -237,8 +237,8 @@ abbrev pub keeps_files : ℕ → Bool
 keeps_files n = n == 2 || n == 3 || n == 4 || n == 7 || n == 8 || n == 9 || n == 12
 
 -- every file is as it was, but for those that the words name as outputs
-abbrev pub KeepsOthers : Option Request → Content → Content → Type 0
-KeepsOthers request old new = (name : List ℕ) → is_output_name request name ≡ false → new.file name ≡ old.file name
+abbrev pub KeepsOtherFiles : Option Request → Content → Content → Type 0
+KeepsOtherFiles request old new = (name : List ℕ) → is_output_name request name ≡ false → new.file name ≡ old.file name
 
 -- every file is as it was
 abbrev pub KeepsFiles : Content → Content → Type 0

@@ -6,7 +6,7 @@ ghost use Rattle.rank_tables.specs.Instance.{pair_count};
 ghost use Rattle.rank_tables.specs.Tables.{numbers_of, IsPairNo};
 ghost use Rattle.rank_tables.specs.WellFormed.{most_pairs};
 ghost use Rattle.hrt_cli.specs.Answers.{GivesUp, IsAnswer, IsAnswered};
-ghost use Rattle.hrt_cli.specs.Ports.{LeavesOthers, ReadsInputs, WritesOutputs};
+ghost use Rattle.hrt_cli.specs.Ports.{KeepsOtherPorts, ReadsInputs, WritesOutputs};
 ghost use Rattle.hrt_cli.specs.Reports.{audit_report, NamesDeclared};
 ghost use Rattle.hrt_cli.specs.Requests.{audit};
 ghost use Rattle.hrt_cli.specs.Statuses.{audit_status};
@@ -31,7 +31,7 @@ pub fn audit<H: Host>(
     ensures ended { IfErr result (λ ended. GivesUp H.told ended (H.world host.old) (H.world host.new)) }
     ensures inputs { ReadsInputs H.told (Some (audit instance.now pairs.now)) (H.world host.old) (H.world host.new) }
     ensures outputs { WritesOutputs H.told (Some (audit instance.now pairs.now)) (H.world host.old) (H.world host.new) }
-    ensures others { LeavesOthers H.told (Some (audit instance.now pairs.now)) (H.world host.old) (H.world host.new) }
+    ensures others { KeepsOtherPorts H.told (Some (audit instance.now pairs.now)) (H.world host.old) (H.world host.new) }
 {
     let inst = match load(alloc, host, instance, Limit::Pairs) {
         Ok(inst) => inst,

@@ -2,7 +2,7 @@
 ghost use Rattle.std.specs.Prelude.{◌≡◌, Some, IfErr, IfOk};
 ghost use Rattle.hrt_base.specs.Calls.{AtStart};
 ghost use Rattle.hrt_cli.specs.Answers.{GivesUp, IsAnswer, IsAnswered};
-ghost use Rattle.hrt_cli.specs.Ports.{LeavesOthers, ReadsInputs, WritesOutputs};
+ghost use Rattle.hrt_cli.specs.Ports.{KeepsOtherPorts, ReadsInputs, WritesOutputs};
 ghost use Rattle.hrt_cli.specs.Requests.{check};
 ghost use Rattle.hrt_cli.specs.Verdicts.{checked};
 
@@ -25,7 +25,7 @@ pub fn check<H: Host>(
     ensures ended { IfErr result (λ ended. GivesUp H.told ended (H.world host.old) (H.world host.new)) }
     ensures inputs { ReadsInputs H.told (Some (check model.now proof.now)) (H.world host.old) (H.world host.new) }
     ensures outputs { WritesOutputs H.told (Some (check model.now proof.now)) (H.world host.old) (H.world host.new) }
-    ensures others { LeavesOthers H.told (Some (check model.now proof.now)) (H.world host.old) (H.world host.new) }
+    ensures others { KeepsOtherPorts H.told (Some (check model.now proof.now)) (H.world host.old) (H.world host.new) }
 {
     let formula = match load_formula(alloc, host, model) {
         Ok(formula) => formula,

@@ -4,7 +4,7 @@ ghost use Rattle.hrt_base.specs.Calls.{AtStart, Rose};
 ghost use Rattle.opb_text.specs.Spelling.{model_text};
 ghost use Rattle.hrt_inputs.specs.Inputs.{IsAt, KeepsPorts};
 ghost use Rattle.hrt_cli.specs.Answers.{EndsEarly, IsAnswer, IsWorked};
-ghost use Rattle.hrt_cli.specs.Ports.{BeginsWriting, IsModel, LeavesOthers, ReadsInputs, WritesOutputs};
+ghost use Rattle.hrt_cli.specs.Ports.{BeginsWriting, IsModel, KeepsOtherPorts, ReadsInputs, WritesOutputs};
 ghost use Rattle.hrt_cli.specs.Reports.{model_report};
 ghost use Rattle.hrt_cli.specs.Requests.{model};
 ghost use Rattle.hrt_cli.specs.Verdicts.{modeled};
@@ -31,7 +31,7 @@ pub fn model<H: Host>(
     ensures ended { IfErr result (λ ended. EndsEarly H.told (Some (model instance.now file.now)) ended (H.world host.old) (H.world host.new)) }
     ensures inputs { ReadsInputs H.told (Some (model instance.now file.now)) (H.world host.old) (H.world host.new) }
     ensures outputs { WritesOutputs H.told (Some (model instance.now file.now)) (H.world host.old) (H.world host.new) }
-    ensures others { LeavesOthers H.told (Some (model instance.now file.now)) (H.world host.old) (H.world host.new) }
+    ensures others { KeepsOtherPorts H.told (Some (model instance.now file.now)) (H.world host.old) (H.world host.new) }
 {
     match load(alloc, host, instance, Limit::Pairs) {
         Ok(inst) => modeled(alloc, host, file, &inst),

@@ -4,9 +4,9 @@ ghost use Rattle.hrt_base.specs.declared.port.Port.{Port};
 ghost use Rattle.hrt_base.specs.Calls.{AtStart, Rose, SentPart};
 ghost use Rattle.hrt_solve.specs.Writing.{SentWhole};
 ghost use Rattle.hrt_cli.specs.Answers.{EndsEarly, IsCutShort, IsWorked, LeavesFronts, SendsNothing};
-ghost use Rattle.hrt_cli.specs.Ports.{LeavesOthers, ReadsInputs, WritesOutputs};
+ghost use Rattle.hrt_cli.specs.Ports.{KeepsOtherPorts, ReadsInputs, WritesOutputs};
 ghost use Rattle.hrt_cli.specs.Requests.{asked_by, audit, bound, check, model, quick, request_of, solve, texts_of, verify};
-ghost use Rattle.hrt_cli.specs.Runs.{EndsAs, Finishes, IsComplete, IsDecided, IsDue, KeepsFiles, KeepsOthers, PrintsAudit, PrintsBest, PrintsBound, PrintsClaim, PrintsMet, PrintsOpen, PrintsSizes, WritesModel, has_report, is_code_of, keeps_files};
+ghost use Rattle.hrt_cli.specs.Runs.{EndsAs, Finishes, IsComplete, IsDecided, IsDue, KeepsFiles, KeepsOtherFiles, PrintsAudit, PrintsBest, PrintsBound, PrintsClaim, PrintsMet, PrintsOpen, PrintsSizes, WritesModel, has_report, is_code_of, keeps_files};
 
 use crate::auditing::audit;
 use crate::checking::check;
@@ -47,8 +47,8 @@ pub fn run<H: Host>(alloc: Global, words: &[String], host: &mut H) -> u8
     ensures closed { has_report result ≡ true → (port : Port) → (H.world host.new).begun port ≡ Begun.Writing → ⊥ }
     ensures inputs { ReadsInputs H.told (request_of (texts_of words.now)) (H.world host.old) (H.world host.new) }
     ensures outputs { WritesOutputs H.told (request_of (texts_of words.now)) (H.world host.old) (H.world host.new) }
-    ensures others { LeavesOthers H.told (request_of (texts_of words.now)) (H.world host.old) (H.world host.new) }
-    ensures files { H.told → KeepsOthers (request_of (texts_of words.now)) (H.world host.old).content (H.world host.new).content }
+    ensures others { KeepsOtherPorts H.told (request_of (texts_of words.now)) (H.world host.old) (H.world host.new) }
+    ensures files { H.told → KeepsOtherFiles (request_of (texts_of words.now)) (H.world host.old).content (H.world host.new).content }
     ensures files_kept { H.told → keeps_files result ≡ true → KeepsFiles (H.world host.old).content (H.world host.new).content }
     ensures known { is_code_of (request_of (texts_of words.now)) result ≡ true }
 {
@@ -62,7 +62,7 @@ fn carry_out<H: Host>(alloc: Global, words: &[String], host: &mut H) -> Status
     ensures ends { EndsAs H.told (request_of (texts_of words.now)) result (H.world host.old) (H.world host.new) }
     ensures inputs { ReadsInputs H.told (request_of (texts_of words.now)) (H.world host.old) (H.world host.new) }
     ensures outputs { WritesOutputs H.told (request_of (texts_of words.now)) (H.world host.old) (H.world host.new) }
-    ensures others { LeavesOthers H.told (request_of (texts_of words.now)) (H.world host.old) (H.world host.new) }
+    ensures others { KeepsOtherPorts H.told (request_of (texts_of words.now)) (H.world host.old) (H.world host.new) }
 {
     let Some(command) = command_of(words) else {
         return match send(host, b"words not understood\n") {
@@ -88,7 +88,7 @@ fn answer_to<H: Host>(alloc: Global, host: &mut H, command: Command) -> Result<A
     ensures ended { IfErr result (λ ended. EndsEarly H.told (Some (asked_by command.entry)) ended (H.world host.old) (H.world host.new)) }
     ensures inputs { ReadsInputs H.told (Some (asked_by command.entry)) (H.world host.old) (H.world host.new) }
     ensures outputs { WritesOutputs H.told (Some (asked_by command.entry)) (H.world host.old) (H.world host.new) }
-    ensures others { LeavesOthers H.told (Some (asked_by command.entry)) (H.world host.old) (H.world host.new) }
+    ensures others { KeepsOtherPorts H.told (Some (asked_by command.entry)) (H.world host.old) (H.world host.new) }
 {
     match command {
         Command::Solve(instance) => solve(alloc, host, instance),

@@ -5,7 +5,7 @@ ghost use Rattle.hrt_solve.specs.Gauged.{bound_claim};
 ghost use Rattle.hrt_solve.specs.Writing.{IsBoundText, IsQuickEnd, IsQuickText};
 ghost use Rattle.hrt_inputs.specs.Inputs.{KeepsPorts};
 ghost use Rattle.hrt_cli.specs.Answers.{EndsEarly, IsAnswer, IsWorked};
-ghost use Rattle.hrt_cli.specs.Ports.{BeginsWriting, IsModelOrProof, LeavesOthers, ReadsInputs, WritesOutputs};
+ghost use Rattle.hrt_cli.specs.Ports.{BeginsWriting, IsModelOrProof, KeepsOtherPorts, ReadsInputs, WritesOutputs};
 ghost use Rattle.hrt_cli.specs.Requests.{bound, quick};
 ghost use Rattle.hrt_cli.specs.Verdicts.{bounded, first_claim, matched};
 ghost use Rattle.hrt_cli.specs.Writing.{AreBegun, SavesInPart, SavesProof, WritesNothing};
@@ -31,7 +31,7 @@ pub fn bound<H: Host>(
     ensures ended { IfErr result (λ ended. EndsEarly H.told (Some (bound instance.now model.now proof.now)) ended (H.world host.old) (H.world host.new)) }
     ensures inputs { ReadsInputs H.told (Some (bound instance.now model.now proof.now)) (H.world host.old) (H.world host.new) }
     ensures outputs { WritesOutputs H.told (Some (bound instance.now model.now proof.now)) (H.world host.old) (H.world host.new) }
-    ensures others { LeavesOthers H.told (Some (bound instance.now model.now proof.now)) (H.world host.old) (H.world host.new) }
+    ensures others { KeepsOtherPorts H.told (Some (bound instance.now model.now proof.now)) (H.world host.old) (H.world host.new) }
 {
     let inst = match load(alloc, host, instance, Limit::Pairs) {
         Ok(inst) => inst,
@@ -56,7 +56,7 @@ pub fn quick<H: Host>(
     ensures ended { IfErr result (λ ended. EndsEarly H.told (Some (quick instance.now model.now proof.now)) ended (H.world host.old) (H.world host.new)) }
     ensures inputs { ReadsInputs H.told (Some (quick instance.now model.now proof.now)) (H.world host.old) (H.world host.new) }
     ensures outputs { WritesOutputs H.told (Some (quick instance.now model.now proof.now)) (H.world host.old) (H.world host.new) }
-    ensures others { LeavesOthers H.told (Some (quick instance.now model.now proof.now)) (H.world host.old) (H.world host.new) }
+    ensures others { KeepsOtherPorts H.told (Some (quick instance.now model.now proof.now)) (H.world host.old) (H.world host.new) }
 {
     let inst = match load(alloc, host, instance, Limit::Pairs) {
         Ok(inst) => inst,

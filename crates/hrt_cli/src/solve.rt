@@ -3,7 +3,7 @@ ghost use Rattle.std.specs.Prelude.{◌≡◌, ◌≤◌, Some, IfOk, IfErr};
 ghost use Rattle.hrt_base.specs.Calls.{AtStart};
 ghost use Rattle.rank_tables.specs.Instance.{pair_count};
 ghost use Rattle.hrt_cli.specs.Answers.{GivesUp, IsAnswer, IsAnswered};
-ghost use Rattle.hrt_cli.specs.Ports.{LeavesOthers, ReadsInputs, WritesOutputs};
+ghost use Rattle.hrt_cli.specs.Ports.{KeepsOtherPorts, ReadsInputs, WritesOutputs};
 ghost use Rattle.hrt_cli.specs.Requests.{solve};
 ghost use Rattle.hrt_cli.specs.Verdicts.{solved};
 
@@ -23,7 +23,7 @@ pub fn solve<H: Host>(alloc: Global, host: &mut H, instance: &str) -> Result<Ans
     ensures ended { IfErr result (λ ended. GivesUp H.told ended (H.world host.old) (H.world host.new)) }
     ensures inputs { ReadsInputs H.told (Some (solve instance.now)) (H.world host.old) (H.world host.new) }
     ensures outputs { WritesOutputs H.told (Some (solve instance.now)) (H.world host.old) (H.world host.new) }
-    ensures others { LeavesOthers H.told (Some (solve instance.now)) (H.world host.old) (H.world host.new) }
+    ensures others { KeepsOtherPorts H.told (Some (solve instance.now)) (H.world host.old) (H.world host.new) }
 {
     match load(alloc, host, instance, Limit::TriedPairs) {
         Ok(inst) => solved(alloc, &inst),

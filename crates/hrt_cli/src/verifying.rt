@@ -3,7 +3,7 @@ ghost use Rattle.std.specs.Prelude.{◌≡◌, Some, IfErr, IfOk, IsTrue};
 ghost use Rattle.hrt_base.specs.Calls.{AtStart};
 ghost use Rattle.proof_lines.specs.Spelling.{is_small_claim};
 ghost use Rattle.hrt_cli.specs.Answers.{GivesUp, IsAnswer, IsAnswered};
-ghost use Rattle.hrt_cli.specs.Ports.{LeavesOthers, ReadsInputs, WritesOutputs};
+ghost use Rattle.hrt_cli.specs.Ports.{KeepsOtherPorts, ReadsInputs, WritesOutputs};
 ghost use Rattle.hrt_cli.specs.Requests.{verify};
 ghost use Rattle.hrt_cli.specs.Verdicts.{verified};
 
@@ -26,7 +26,7 @@ pub fn verify<H: Host>(
     ensures ended { IfErr result (λ ended. GivesUp H.told ended (H.world host.old) (H.world host.new)) }
     ensures inputs { ReadsInputs H.told (Some (verify instance.now proof.now)) (H.world host.old) (H.world host.new) }
     ensures outputs { WritesOutputs H.told (Some (verify instance.now proof.now)) (H.world host.old) (H.world host.new) }
-    ensures others { LeavesOthers H.told (Some (verify instance.now proof.now)) (H.world host.old) (H.world host.new) }
+    ensures others { KeepsOtherPorts H.told (Some (verify instance.now proof.now)) (H.world host.old) (H.world host.new) }
 {
     let inst = match load(alloc, host, instance, Limit::Pairs) {
         Ok(inst) => inst,

@@ -2,7 +2,7 @@ use Rattle.std.proofs.Common.{Option, List, ℕ, refl, subst}
 use Rattle.hrt_base.specs.declared.port.Port.TheVariants.{Report}
 use Rattle.hrt_base.specs.Calls.{SentPart}
 use Rattle.hrt_cli.specs.Requests.{Request}
-use Rattle.hrt_cli.specs.Ports.{LeavesOthers}
+use Rattle.hrt_cli.specs.Ports.{KeepsOtherPorts}
 use Rattle.hrt_cli.specs.Answers.{CutShort}
 use Rattle.hrt_cli.specs.declared.status.Status.TheVariants.{Misused}
 use Rattle.hrt_cli.specs.Runs.{Reported}
@@ -28,10 +28,10 @@ returns-in-Ok-answer_to-clause-ends g c =
 
 pub returns-in-Ok-send-clause-others : goal.returns-in-Ok-send-clause-others
 returns-in-Ok-send-clause-others g c =
-    subst (λ (r : Option Request). LeavesOthers g.H.Host.told r (g.H.Host.world c.args.host.now) (g.H.Host.world c.send-in-Ok-answer_to.new.host)) c.in-Some.ensures
+    subst (λ (r : Option Request). KeepsOtherPorts g.H.Host.told r (g.H.Host.world c.args.host.now) (g.H.Host.world c.send-in-Ok-answer_to.new.host)) c.in-Some.ensures
     (report_sent_keeps _ _ _ _ _ _ c.in-Ok-answer_to.ensures.others c.in-Ok-send.ensures.sent)
 
 pub returns-in-Ok-answer_to-clause-others : goal.returns-in-Ok-answer_to-clause-others
 returns-in-Ok-answer_to-clause-others g c =
-    subst (λ (r : Option Request). LeavesOthers g.H.Host.told r (g.H.Host.world c.args.host.now) (g.H.Host.world c.send-in-Ok-answer_to.new.host)) c.in-Some.ensures
+    subst (λ (r : Option Request). KeepsOtherPorts g.H.Host.told r (g.H.Host.world c.args.host.now) (g.H.Host.world c.send-in-Ok-answer_to.new.host)) c.in-Some.ensures
     (report_part_keeps _ _ _ _ _ _ c.in-Ok-answer_to.ensures.others c.in-Err-send.ensures.failed)

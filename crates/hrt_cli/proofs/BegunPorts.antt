@@ -14,17 +14,18 @@ use Rattle.opb_text.specs.Spelling.{model_text}
 use Rattle.proof_lines.specs.declared.line.Claim.{Claim}
 use Rattle.hrt_solve.specs.Writing.{SentBoth, SentFrontBehind, StopsWriting}
 use Rattle.hrt_inputs.specs.declared.limit.Limit.TheVariants as limit
-use Rattle.hrt_inputs.specs.Inputs.{BeginsAtMost}
+use Rattle.hrt_inputs.specs.Inputs.{BeginsAtMost, IsAt}
 use Rattle.hrt_inputs.specs.Loading.{IsLoaded, IsRead}
 use Rattle.hrt_inputs.specs.Taken.{IsTakenAs, formula_in}
 use Rattle.hrt_cli.specs.declared.answer.Answer.{Answer}
 use Rattle.hrt_cli.specs.declared.stop.Ended.{Ended}
 use Rattle.hrt_cli.specs.declared.stop.Ended.TheVariants as ended
 use Rattle.hrt_cli.specs.Outputs.{output}
-use Rattle.hrt_cli.specs.Ports.{BeginsWriting, IsInput, IsModel, IsModelOrProof, IsOutput, ReadsInputs, WritesOutputs}
+use Rattle.hrt_cli.specs.Ports.{BeginsWriting, IsInput, IsModelOrProof, IsOutput, ReadsInputs, WritesOutputs}
 use Rattle.hrt_cli.specs.Requests.{Request, audit, bound, check, model, quick, solve, verify}
 use Rattle.hrt_cli.specs.Writing.{EndsWriting, SavesInPart, SavesProof, WritesAll, WritesInPart}
-use Rattle.hrt_cli.proofs.Runs.{put_elsewhere, reads_nothing, writes_report}
+use Rattle.hrt_inputs.proofs.Ports.{put_elsewhere}
+use Rattle.hrt_cli.proofs.Runs.{reads_nothing, writes_report}
 use Rattle.hrt_cli.proofs.WrittenOutputs.{is_taken}
 use Rattle.hrt_solve.specs.Writing.{SentWhole}
 
@@ -165,17 +166,17 @@ none_begins told Is w v failed = begins_same Is w w v (begins_none Is w) failed.
 
 -- ---- a model alone
 
-pub model_front_begins : (told : Type 0) (name text : List ℕ) (w v u : World) → Started told Model name w v → SentFront told Model text v u → BeginsWriting IsModel w u
-model_front_begins told name text w v u first front = begins_same IsModel w v u (model_begins told IsModel name w v first refl) front.front.1.begun
+pub model_front_begins : (told : Type 0) (name text : List ℕ) (w v u : World) → Started told Model name w v → SentFront told Model text v u → BeginsWriting (IsAt Model) w u
+model_front_begins told name text w v u first front = begins_same (IsAt Model) w v u (model_begins told (IsAt Model) name w v first refl) front.front.1.begun
 
-model_sent_begins : (told : Type 0) (name text : List ℕ) (w v u : World) → Started told Model name w v → Sent told Model text v u → BeginsWriting IsModel w u
-model_sent_begins told name text w v u first second = begins_same IsModel w v u (model_begins told IsModel name w v first refl) second.begun
+model_sent_begins : (told : Type 0) (name text : List ℕ) (w v u : World) → Started told Model name w v → Sent told Model text v u → BeginsWriting (IsAt Model) w u
+model_sent_begins told name text w v u first second = begins_same (IsAt Model) w v u (model_begins told (IsAt Model) name w v first refl) second.begun
 
-pub model_unsealed_begins : (told : Type 0) (name text : List ℕ) (w v u x : World) → Started told Model name w v → Sent told Model text v u → NotWritten told u x → BeginsWriting IsModel w x
-model_unsealed_begins told name text w v u x first second failed = begins_same IsModel w u x (model_sent_begins told name text w v u first second) failed.begun
+pub model_unsealed_begins : (told : Type 0) (name text : List ℕ) (w v u x : World) → Started told Model name w v → Sent told Model text v u → NotWritten told u x → BeginsWriting (IsAt Model) w x
+model_unsealed_begins told name text w v u x first second failed = begins_same (IsAt Model) w u x (model_sent_begins told name text w v u first second) failed.begun
 
-pub model_sealed_begins : (told : Type 0) (name text : List ℕ) (w v u x : World) → Started told Model name w v → Sent told Model text v u → Sealed told Model u x → BeginsWriting IsModel w x
-model_sealed_begins told name text w v u x first second third = begins_less IsModel Model w u x (model_sent_begins told name text w v u first second) third.begun
+pub model_sealed_begins : (told : Type 0) (name text : List ℕ) (w v u x : World) → Started told Model name w v → Sent told Model text v u → Sealed told Model u x → BeginsWriting (IsAt Model) w x
+model_sealed_begins told name text w v u x first second third = begins_less (IsAt Model) Model w u x (model_sent_begins told name text w v u first second) third.begun
 
 -- ---- a model and a proof
 
@@ -234,9 +235,9 @@ pub saved_model_reads : (told : Type 0) (i m : List ℕ) (lists : Lists) (r : Re
 saved_model_reads told i m lists r old mid new start most saved up = then_reads told (Some (model i m)) old mid new start most refl (model_readers told m (model_text lists) r mid new saved up)
 
 pub saved_model_writes : (told : Type 0) (i m : List ℕ) (lists : Lists) (old mid new : World) → AtStart told old → BeginsAtMost Instance old mid → IsLoaded told i limit.Pairs lists old mid
-    → BeginsWriting IsModel mid new → WritesOutputs told (Some (model i m)) old new
+    → BeginsWriting (IsAt Model) mid new → WritesOutputs told (Some (model i m)) old new
 saved_model_writes told i m lists old mid new start most loaded begins =
-    then_writes told (Some (model i m)) IsModel old mid new start most begins (λ p is. (is, is_taken told i lists old mid loaded))
+    then_writes told (Some (model i m)) (IsAt Model) old mid new start most begins (λ p is. (is, is_taken told i lists old mid loaded))
 
 -- a command that writes a model and a proof reads the instance alone
 pub bound_reads : (told : Type 0) (i m p : List ℕ) (old new : World) → AtStart told old → BeginsAtMost Instance old new → ReadsInputs told (Some (bound i m p)) old new

@@ -161,5 +161,5 @@ pub report_part_keeps : (told : Type 0) (request : Option Request) (text : List 
 report_part_keeps told request text old mid new a sent =
     record { others = keeps_then told (IsPortOf request) old mid new a.others (keeps_fewer told (IsAt Report) (IsPortOf request) mid new (report_is request) (sent_keeps told Report _ mid new sent.part.1)) }
 
-pub nothing_asked_keeps : (told : Type 0) (request : Option Request) (w : World) → KeepsOtherPorts told request w w
-nothing_asked_keeps told request w = record { others = keeps_all told (IsPortOf request) w }
+pub nothing_done_keeps : (told : Type 0) (request : Option Request) (w : World) → KeepsOtherPorts told request w w
+nothing_done_keeps told request w = record { others = keeps_all told (IsPortOf request) w }

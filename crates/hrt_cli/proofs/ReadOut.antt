@@ -12,7 +12,8 @@ use Rattle.hrt_inputs.specs.Inputs.{OnlyRead, but_for_rest}
 use Rattle.hrt_inputs.specs.Rejections.{Rejection, exceeded}
 use Rattle.hrt_cli.specs.Answers.{IsReadOut, PassedAt}
 use Rattle.hrt_cli.specs.Verdicts.{Verdict, rejected}
-use Rattle.hrt_cli.proofs.Runs.{put_elsewhere, reads_nothing}
+use Rattle.hrt_inputs.proofs.Ports.{put_elsewhere}
+use Rattle.hrt_cli.proofs.Runs.{reads_nothing}
 
 -- one port alone was begun for reading, and was read to its end or past its limit
 pub reads_one : (told : Type 0) (port : Port) (old mid : World) (verdict : Verdict) → AtStart told old → mid.begun ≡ put port Reading old.begun → (mid.content.rest port ≡ []) ⊎ PassedAt verdict port

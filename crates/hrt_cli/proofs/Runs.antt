@@ -2,7 +2,6 @@
 use Rattle.std.specs.Prelude.{Some, is_none, true}
 use Rattle.std.proofs.Common.{◌≡◌, ℕ, List, [], ◌++◌, ◌⊎◌, take, Option, None, refl, sym, ◌∙◌, ap, subst, arith, inl, inr, IsTrue, codes}
 use Rattle.std.proofs.lemmas.Bool.{cases_eq}
-use Rattle.std.proofs.lemmas.Bool.Decides.{nat_tests}
 use Rattle.hrt_base.specs.declared.port.Port.{Port}
 use Rattle.hrt_base.specs.declared.port.Port.TheVariants.{Report}
 use Rattle.hrt_base.specs.declared.host.Begun.{Begun}
@@ -12,6 +11,7 @@ use Rattle.hrt_base.specs.World.{World, Content, port_no, put, store}
 use Rattle.hrt_base.proofs.Pieces.{port_no-injective, put_here}
 use Rattle.hrt_solve.specs.Writing.{SentWhole}
 use Rattle.hrt_inputs.specs.Inputs.{OnlyRead}
+use Rattle.hrt_inputs.proofs.Ports.{idle_not_writing, put_elsewhere, reading_not_writing}
 use Rattle.hrt_cli.specs.declared.answer.Answer.{Answer}
 use Rattle.hrt_cli.specs.declared.status.Status.{Status}
 use Rattle.hrt_cli.specs.declared.status.Status.TheVariants.{Done, Misused, InstanceRefused, ReadFault, WriteFault, NoMemory, LimitExceeded, ProofRefused, AuditNo, Bounded, PairsRefused}
@@ -25,12 +25,6 @@ use Rattle.hrt_cli.specs.Runs.{IsReported, Reported, EndsAs}
 use Rattle.hrt_cli.specs.Verdicts.{Verdict, misused}
 
 -- ---- ports
-
-pub put_elsewhere : {A : Type 0} (port : Port) (x : A) (f : Port → A) (p : Port) → (port_no p ≡ port_no port → ⊥) → put port x f p ≡ f p
-put_elsewhere port x f p other = grind (arith, nat_tests)
-
-pub idle_not_writing : (b : Begun) → b ≡ Idle → b ≡ Writing → ⊥
-idle_not_writing b idle writing = let e : Idle ≡ Writing = sym idle ∙ writing in absurd (cc)
 
 -- a host at its start writes on the report alone
 pub writes_report : (told : Type 0) (w : World) → AtStart told w → (p : Port) → w.begun p ≡ Writing → port_no p ≡ port_no Report
@@ -51,19 +45,16 @@ closed_after told text mid new others sent p writing = elim (cases_eq (port_no p
       other (others p here)
 ]
 
-pub not_reading : (b : Begun) → b ≡ Idle → b ≡ Reading → ⊥
-not_reading b idle reading = let e : Idle ≡ Reading = sym idle ∙ reading in absurd (cc)
-
-pub writing_not_reading : (b : Begun) → b ≡ Writing → b ≡ Reading → ⊥
-writing_not_reading b writing reading = let e : Writing ≡ Reading = sym writing ∙ reading in absurd (cc)
+pub idle_not_reading : (b : Begun) → b ≡ Idle → b ≡ Reading → ⊥
+idle_not_reading b idle reading = let e : Idle ≡ Reading = sym idle ∙ reading in absurd (cc)
 
 -- a host at its start reads on no port
 pub reads_nothing : (told : Type 0) (w : World) → AtStart told w → (p : Port) → w.begun p ≡ Reading → ⊥
 reads_nothing told w start p reading = elim (cases_eq (port_no p) (port_no Report)) [
   | inl same ↦
       let e : p ≡ Report = port_no-injective p Report same in
-      writing_not_reading (w.begun p) (ap (λ (f : Port → Begun). f p) start.begun ∙ ap (put Report Writing (λ q. Idle)) e) reading
-  | inr other ↦ not_reading (w.begun p) (ap (λ (f : Port → Begun). f p) start.begun ∙ put_elsewhere Report Writing (λ q. Idle) p other) reading
+      reading_not_writing (w.begun p) reading (ap (λ (f : Port → Begun). f p) start.begun ∙ ap (put Report Writing (λ q. Idle)) e)
+  | inr other ↦ idle_not_reading (w.begun p) (ap (λ (f : Port → Begun). f p) start.begun ∙ put_elsewhere Report Writing (λ q. Idle) p other) reading
 ]
 
 -- ---- content
@@ -177,7 +168,7 @@ whole_read_out : (told : Type 0) (text : List ℕ) (mid new : World) (v : Verdic
 whole_read_out told text mid new v sent t out p reading = elim (cases_eq (port_no p) (port_no Report)) [
   | inl same ↦
       let e : p ≡ Report = port_no-injective p Report same in
-      absurd (not_reading (new.begun p) (ap (λ (f : Port → Begun). f p) sent.begun ∙ ap (put Report Idle mid.begun) e ∙ put_here Report Idle mid.begun) reading)
+      absurd (idle_not_reading (new.begun p) (ap (λ (f : Port → Begun). f p) sent.begun ∙ ap (put Report Idle mid.begun) e ∙ put_here Report Idle mid.begun) reading)
   | inr other ↦
       let here : mid.begun p ≡ Reading = sym (ap (λ (f : Port → Begun). f p) sent.begun ∙ put_elsewhere Report Idle mid.begun p other) ∙ reading in
       subst (λ (l : List ℕ). (l ≡ []) ⊎ PassedAt v p) (sym (ap (λ (c : Content). c.rest p) (sent.content t))) (out p here)

@@ -31,46 +31,24 @@ use Rattle.hrt_cli.specs.Statuses.{status_of}
 -- the command reads an instance
 abbrev pub reads_instance : Option Request → Bool
 reads_instance None = false
-reads_instance (Some (solve instance)) = true
-reads_instance (Some (audit instance pairs)) = true
-reads_instance (Some (model instance file)) = true
-reads_instance (Some (verify instance proof)) = true
 reads_instance (Some (check file proof)) = false
-reads_instance (Some (bound instance file proof)) = true
-reads_instance (Some (quick instance file proof)) = true
+reads_instance _ = true
 
 -- the command judges a proof
 abbrev pub judges_proof : Option Request → Bool
-judges_proof None = false
-judges_proof (Some (solve instance)) = false
-judges_proof (Some (audit instance pairs)) = false
-judges_proof (Some (model instance file)) = false
 judges_proof (Some (verify instance proof)) = true
 judges_proof (Some (check file proof)) = true
-judges_proof (Some (bound instance file proof)) = false
-judges_proof (Some (quick instance file proof)) = false
+judges_proof _ = false
 
 -- the command audits pairs
 abbrev pub audits_pairs : Option Request → Bool
-audits_pairs None = false
-audits_pairs (Some (solve instance)) = false
 audits_pairs (Some (audit instance pairs)) = true
-audits_pairs (Some (model instance file)) = false
-audits_pairs (Some (verify instance proof)) = false
-audits_pairs (Some (check file proof)) = false
-audits_pairs (Some (bound instance file proof)) = false
-audits_pairs (Some (quick instance file proof)) = false
+audits_pairs _ = false
 
 -- the command prints a matching that may be shorter than the ceiling
 abbrev pub may_be_open : Option Request → Bool
-may_be_open None = false
-may_be_open (Some (solve instance)) = false
-may_be_open (Some (audit instance pairs)) = false
-may_be_open (Some (model instance file)) = false
-may_be_open (Some (verify instance proof)) = false
-may_be_open (Some (check file proof)) = false
-may_be_open (Some (bound instance file proof)) = false
 may_be_open (Some (quick instance file proof)) = true
+may_be_open _ = false
 
 -- a status that tells a verdict to which these words can come, whatever the files are
 abbrev pub is_verdict_of : Option Request → Status → Bool

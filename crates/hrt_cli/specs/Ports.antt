@@ -4,7 +4,7 @@ use Rattle.hrt_base.specs.declared.port.Port.{Port}
 use Rattle.hrt_base.specs.declared.port.Port.TheVariants.{Instance, Pairs, Model, Proof, Report}
 use Rattle.hrt_base.specs.declared.host.Begun.TheVariants.{Reading, Writing}
 use Rattle.hrt_base.specs.World.{World}
-use Rattle.hrt_inputs.specs.Inputs.{KeepsPorts}
+use Rattle.hrt_inputs.specs.Inputs.{IsAt, KeepsPorts}
 use Rattle.hrt_inputs.specs.Taken.{IsTaken, IsTakenAs, formula_in}
 use Rattle.hrt_cli.specs.Requests.{Request, solve, audit, model, verify, check, bound, quick}
 use Rattle.hrt_cli.specs.Verdicts.{Files}
@@ -20,10 +20,6 @@ IsInput told (Some (check file proof)) files port = (port ≡ Model) ⊎ ((port 
 IsInput told (Some (bound instance file proof)) files port = port ≡ Instance
 IsInput told (Some (quick instance file proof)) files port = port ≡ Instance
 
--- the port of a model
-abbrev pub IsModel : Port → Type 0
-IsModel port = port ≡ Model
-
 -- the port of a model or that of a proof
 abbrev pub IsModelOrProof : Port → Type 0
 IsModelOrProof port = (port ≡ Model) ⊎ (port ≡ Proof)
@@ -33,7 +29,7 @@ abbrev pub IsOutput : (told : Type 0) → Option Request → Files → Port → 
 IsOutput told None files port = ⊥
 IsOutput told (Some (solve instance)) files port = ⊥
 IsOutput told (Some (audit instance pairs)) files port = ⊥
-IsOutput told (Some (model instance file)) files port = IsModel port × (told → IsTaken (files instance))
+IsOutput told (Some (model instance file)) files port = IsAt Model port × (told → IsTaken (files instance))
 IsOutput told (Some (verify instance proof)) files port = ⊥
 IsOutput told (Some (check file proof)) files port = ⊥
 IsOutput told (Some (bound instance file proof)) files port = IsModelOrProof port × (told → IsTaken (files instance))
@@ -44,7 +40,7 @@ abbrev pub IsPortOf : Option Request → Port → Type 0
 IsPortOf None port = port ≡ Report
 IsPortOf (Some (solve instance)) port = (port ≡ Instance) ⊎ (port ≡ Report)
 IsPortOf (Some (audit instance pairs)) port = (port ≡ Instance) ⊎ (port ≡ Pairs) ⊎ (port ≡ Report)
-IsPortOf (Some (model instance file)) port = (port ≡ Instance) ⊎ IsModel port ⊎ (port ≡ Report)
+IsPortOf (Some (model instance file)) port = (port ≡ Instance) ⊎ IsAt Model port ⊎ (port ≡ Report)
 IsPortOf (Some (verify instance proof)) port = (port ≡ Instance) ⊎ (port ≡ Proof) ⊎ (port ≡ Report)
 IsPortOf (Some (check file proof)) port = (port ≡ Model) ⊎ (port ≡ Proof) ⊎ (port ≡ Report)
 IsPortOf (Some (bound instance file proof)) port = (port ≡ Instance) ⊎ IsModelOrProof port ⊎ (port ≡ Report)

@@ -4,7 +4,7 @@ ghost use Rattle.hrt_base.specs.Calls.{AtStart, Rose};
 ghost use Rattle.opb_text.specs.Spelling.{model_text};
 ghost use Rattle.hrt_inputs.specs.Inputs.{IsAt, KeepsPorts};
 ghost use Rattle.hrt_cli.specs.Answers.{EndsEarly, IsAnswer, IsWorked};
-ghost use Rattle.hrt_cli.specs.Ports.{BeginsWriting, IsModel, KeepsOtherPorts, ReadsInputs, WritesOutputs};
+ghost use Rattle.hrt_cli.specs.Ports.{BeginsWriting, KeepsOtherPorts, ReadsInputs, WritesOutputs};
 ghost use Rattle.hrt_cli.specs.Reports.{model_report};
 ghost use Rattle.hrt_cli.specs.Requests.{model};
 ghost use Rattle.hrt_cli.specs.Verdicts.{modeled};
@@ -48,7 +48,7 @@ fn modeled<H: Host>(
     inst: &Instance,
 ) -> Result<Answer, Ended>
     requires { (H.world host.old).begun Port.Model ≡ Begun.Idle }
-    ensures ports { BeginsWriting IsModel (H.world host.old) (H.world host.new) }
+    ensures ports { BeginsWriting (IsAt Port.Model) (H.world host.old) (H.world host.new) }
     ensures others { KeepsPorts H.told (IsAt Port.Model) (H.world host.old) (H.world host.new) }
     ensures saved { OnOk result (WritesAll H.told (output Port.Model file.now (model_text inst.now) ∷ []) (H.world host.old) (H.world host.new)) }
     ensures answered { IfOk result (λ answer. IsAnswer (modeled inst.now) answer) }
@@ -84,7 +84,7 @@ fn save_model<H: Host>(
     model: &Model,
 ) -> Result<(), WriteEnd>
     requires { (H.world host.old).begun Port.Model ≡ Begun.Idle }
-    ensures ports { BeginsWriting IsModel (H.world host.old) (H.world host.new) }
+    ensures ports { BeginsWriting (IsAt Port.Model) (H.world host.old) (H.world host.new) }
     ensures others { KeepsPorts H.told (IsAt Port.Model) (H.world host.old) (H.world host.new) }
     ensures saved { OnOk result (WritesAll H.told (output Port.Model file.now (model_text model.now) ∷ []) (H.world host.old) (H.world host.new)) }
     ensures part { OnErr result (WritesInPart H.told (output Port.Model file.now (model_text model.now) ∷ []) (H.world host.old) (H.world host.new)) }

@@ -56,7 +56,7 @@ pub fn run<H: Host>(alloc: Global, words: &[String], host: &mut H) -> u8
 }
 
 // Does what the words ask for, and tells how it ended.
-#[tactic(auto, using(crate::proofs::BegunPorts::at_start_reads, crate::proofs::BegunPorts::at_start_writes, crate::proofs::BegunPorts::sent_whole_reads, crate::proofs::BegunPorts::sent_whole_writes, crate::proofs::BegunPorts::sent_part_reads, crate::proofs::BegunPorts::sent_part_writes, crate::proofs::OtherPorts::nothing_asked_keeps, crate::proofs::OtherPorts::report_sent_keeps, crate::proofs::OtherPorts::report_part_keeps))]
+#[tactic(auto, using(crate::proofs::BegunPorts::at_start_reads, crate::proofs::BegunPorts::at_start_writes, crate::proofs::BegunPorts::sent_whole_reads, crate::proofs::BegunPorts::sent_whole_writes, crate::proofs::BegunPorts::sent_part_reads, crate::proofs::BegunPorts::sent_part_writes, crate::proofs::OtherPorts::nothing_done_keeps, crate::proofs::OtherPorts::report_sent_keeps, crate::proofs::OtherPorts::report_part_keeps))]
 fn carry_out<H: Host>(alloc: Global, words: &[String], host: &mut H) -> Status
     requires { AtStart H.told (H.world host.old) }
     ensures ends { EndsAs H.told (request_of (texts_of words.now)) result (H.world host.old) (H.world host.new) }

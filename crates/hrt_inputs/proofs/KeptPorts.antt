@@ -1,11 +1,10 @@
 -- What calls over a host leave of the ports that they don't name.
-use Rattle.std.proofs.Common.{◌≡◌, ℕ, List, Result, Ok, Err, IfOk, OnErr, refl, ◌∙◌, ap, arith}
-use Rattle.std.proofs.lemmas.Bool.Decides.{nat_tests}
+use Rattle.std.proofs.Common.{◌≡◌, ℕ, List, Result, Ok, Err, IfOk, OnErr, refl, ◌∙◌, ap}
 use Rattle.std.specs.declared.vec.Vec.{Vec}
 use Rattle.hrt_base.specs.declared.port.Port.{Port}
 use Rattle.hrt_base.specs.declared.port.Port.TheVariants.{Proof}
 use Rattle.hrt_base.specs.Calls.{NotRead, Opened, Taken, TakenPart}
-use Rattle.hrt_base.specs.World.{World, Content, port_no, put, with_rest}
+use Rattle.hrt_base.specs.World.{World, Content, put, with_rest}
 use Rattle.hrt_base.proofs.Pieces.{port_no-injective}
 use Rattle.pb_rows.specs.Formula.{Formula}
 use Rattle.proof_rules.specs.Texts.{Verdict}
@@ -13,9 +12,7 @@ use Rattle.hrt_solve.specs.declared.refusal.CheckRefusal.{CheckRefusal}
 use Rattle.hrt_solve.specs.declared.refusal.CheckRefusal.TheVariants as check
 use Rattle.hrt_solve.specs.Judged.{IsJudged, StopsCheck}
 use Rattle.hrt_inputs.specs.Inputs.{IsAt, KeepsPorts}
-
-put_elsewhere : {A : Type 0} (port : Port) (x : A) (f : Port → A) (p : Port) → (port_no p ≡ port_no port → ⊥) → put port x f p ≡ f p
-put_elsewhere port x f p other = grind (arith, nat_tests)
+use Rattle.hrt_inputs.proofs.Ports.{put_elsewhere}
 
 pub put_at_others : {A : Type 0} (port : Port) (x : A) (f : Port → A) (p : Port) → (IsAt port p → ⊥) → put port x f p ≡ f p
 put_at_others port x f p other = put_elsewhere port x f p (λ e. other (port_no-injective p port e))

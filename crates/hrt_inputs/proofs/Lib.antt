@@ -1,6 +1,6 @@
 pub mod FewTerms
 pub mod KeptPorts
-mod Ports
+pub mod Ports
 mod ProofFiles
 pub mod ReadInstances
 pub mod ReadModels

@@ -8,13 +8,13 @@ use Rattle.hrt_base.specs.declared.host.Begun.TheVariants.{Idle, Reading, Writin
 use Rattle.hrt_base.specs.World.{port_no, put}
 use Rattle.hrt_base.proofs.Pieces.{port_no-injective, put_here}
 
-not_idle : (b : Begun) → b ≡ Idle → b ≡ Writing → ⊥
-not_idle b idle writing = let e : Idle ≡ Writing = sym idle ∙ writing in absurd (cc)
+pub idle_not_writing : (b : Begun) → b ≡ Idle → b ≡ Writing → ⊥
+idle_not_writing b idle writing = let e : Idle ≡ Writing = sym idle ∙ writing in absurd (cc)
 
-not_reading : (b : Begun) → b ≡ Reading → b ≡ Writing → ⊥
-not_reading b reading writing = let e : Reading ≡ Writing = sym reading ∙ writing in absurd (cc)
+pub reading_not_writing : (b : Begun) → b ≡ Reading → b ≡ Writing → ⊥
+reading_not_writing b reading writing = let e : Reading ≡ Writing = sym reading ∙ writing in absurd (cc)
 
-put_elsewhere : (port : Port) (x : Begun) (f : Port → Begun) (p : Port) → (port_no p ≡ port_no port → ⊥) → put port x f p ≡ f p
+pub put_elsewhere : {A : Type 0} (port : Port) (x : A) (f : Port → A) (p : Port) → (port_no p ≡ port_no port → ⊥) → put port x f p ≡ f p
 put_elsewhere port x f p other = grind (arith, nat_tests)
 
 -- a port that is begun for reading was not begun for writing, and is not now
@@ -23,6 +23,6 @@ reading_writers port f idle p = elim (cases_eq (port_no p) (port_no port)) [
   | inl same ↦
       let e : p ≡ port = port_no-injective p port same in
       let here : put port Reading f p ≡ Reading = ap (put port Reading f) e ∙ put_here port Reading f in
-      (λ w. absurd (not_reading _ here w), λ w. absurd (not_idle (f p) (ap f e ∙ idle) w))
+      (λ w. absurd (reading_not_writing _ here w), λ w. absurd (idle_not_writing (f p) (ap f e ∙ idle) w))
   | inr other ↦ let same : put port Reading f p ≡ f p = put_elsewhere port Reading f p other in (λ w. sym same ∙ w, λ w. same ∙ w)
 ]

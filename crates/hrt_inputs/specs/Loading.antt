@@ -26,7 +26,7 @@ StopsText lists (ProofRefused refusal) = ⊥
 StopsText lists ReadFault = ⊥
 StopsText lists NoMemory = Unit {0}
 
--- what is read in a file was read to its end on a port, and is this value
+-- a file was read to its end on a port, and its bytes are read as this value
 pub record IsRead {A : Type 0} (told : Type 0) (port : Port) (name : List ℕ) (read : List ℕ → Result A Rejection) (value : A) (old new : World) : Type 0 where
   pub only_read : OnlyRead told old new
   pub begun : new.begun ≡ put port Reading old.begun

@@ -15,7 +15,7 @@ use Rattle.proof_lines.specs.declared.line.PolStep.{PolStep}
 use Rattle.proof_lines.specs.declared.line.Line.TheVariants.{Pol}
 use Rattle.proof_lines.specs.declared.note.Note.TheVariants.{Bound as BoundRow}
 use Rattle.proof_lines.specs.Spelling.{most_bytes, row_no}
-use Rattle.proof_lines.specs.Texts.{is_made_id, line_text, note_text}
+use Rattle.proof_lines.specs.Texts.{is_spellable_id, line_text, note_text}
 use Rattle.proof_rules.specs.Refusals.{Refusal, and_then}
 use Rattle.proof_rules.specs.Pol.{pol_row}
 use Rattle.proof_rules.specs.States.{IsInOrder, State, with_row}
@@ -34,7 +34,7 @@ pub on_err : {T E P : Type 0} (result : Result T E) → P → OnErr result P
 on_err (Ok x) p = tt
 on_err (Err x) p = p
 
-pub note_made : (n next : ℕ) → n ≡ next → 1 ≤ next → next < 10 ^ 18 → is_made_id (row_no n) ≡ true
+pub note_made : (n next : ℕ) → n ≡ next → 1 ≤ next → next < 10 ^ 18 → is_spellable_id (row_no n) ≡ true
 note_made n next e first last = and_from (nat_le 1 n) (nat_le n (10 ^ 18 - 1)) (le-leb 1 n (omega arith)) (le-leb n (10 ^ 18 - 1) (omega arith))
 
 pub note_short : (n : ℕ) → n < 10 ^ 18 → length (note_text (BoundRow (row_no n))) ≤ most_bytes

@@ -3,7 +3,7 @@ use Rattle.std.proofs.Common.{◌≡◌, ℕ, ◌≤◌, min, Bool, true, false,
 use Rattle.std.specs.List.{list_any}
 use Rattle.std.proofs.lemmas.Bool.{and_from, and_parts, ltb-false, not_from_false}
 use Rattle.rank_tables.specs.Numbers.{below, is_in, numbers_to}
-use Rattle.rank_tables.specs.Instance.{Lists, capacity_of, pair_at, pair_count, pairs_of_hospital, pairs_of_resident}
+use Rattle.rank_tables.specs.Instance.{Lists, capacity_of, pair_at, pair_count, rising_pairs_of_hospital, pairs_of_resident}
 use Rattle.rank_tables.specs.Stability.{is_matching}
 use Rattle.rank_tables.specs.Tables.{IsPairNo}
 use Rattle.rank_tables.proofs.Numbers.{all_at, list_any-count, same_bools, sum_by_same}
@@ -74,7 +74,7 @@ module _ (lists : Lists) (a b : Pairs) (exact_a : AreGone lists a) (exact_b : Ar
   ceiling_same =
       ap₂ min
       (sum_by_same _ _ (below (length lists.residents)) (λ r. ap (λ (t : Bool). if t then 1 else 0) (any_same (pairs_of_resident lists r) (λ p i. (pair_of_resident lists r p i).0))))
-      (sum_by_same _ _ (below (length lists.hospitals)) (λ k. ap (min (capacity_of lists k)) (left_same (pairs_of_hospital lists k) (λ p i. (pair_of_hospital lists k p i).0))))
+      (sum_by_same _ _ (below (length lists.hospitals)) (λ k. ap (min (capacity_of lists k)) (left_same (rising_pairs_of_hospital lists k) (λ p i. (pair_of_hospital lists k p i).0))))
 
 pub ceiling_exact : (lists : Lists) (gone : Pairs) (n : ℕ) → n ≡ ceiling lists gone → AreGone lists gone → IsCeiling lists n
 ceiling_exact lists gone n e exact = record { of_each = λ set other. e ∙ ceiling_same lists gone set exact other }

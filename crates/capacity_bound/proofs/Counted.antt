@@ -5,7 +5,7 @@ use Rattle.std.proofs.lemmas.Bool.{lt-ltb, le-ltb}
 use Rattle.std.proofs.lemmas.List.Sums.{count_by-le-length, sum_by_push}
 use Rattle.hrt_base.specs.declared.numbered.PairNo.{PairNo}
 use Rattle.rank_tables.specs.Numbers.{below, is_distinct, is_in}
-use Rattle.rank_tables.specs.Instance.{Lists, capacity_of, pairs_of_hospital, pairs_of_resident}
+use Rattle.rank_tables.specs.Instance.{Lists, capacity_of, rising_pairs_of_hospital, pairs_of_resident}
 use Rattle.rank_tables.specs.Tables.{numbers_of}
 use Rattle.rank_tables.proofs.Below.{length-below}
 use Rattle.rank_tables.proofs.Numbers.{list_any-count}
@@ -39,11 +39,11 @@ module _ (lists : Lists) (gone : Pairs) (k n count : ℕ) (pairs : List PairNo) 
 
 -- ---- hospitals
 
-pub posts_more : (lists : Lists) (deletions : Deletions) (k n capacity count least : ℕ) (pairs : List PairNo) → ((p : ℕ) → is_in p (numbers_of pairs) ≡ is_in p (pairs_of_hospital lists k)) → is_distinct (numbers_of pairs) ≡ true → count ≡ count_by (λ p. not (is_deleted deletions p)) (numbers_of pairs) →
-    capacity ≡ capacity_of lists k → least ≡ min capacity count → n ≡ sum_by (λ h. min (capacity_of lists h) (count_by (λ p. not (is_deleted deletions p)) (pairs_of_hospital lists h))) (below k) →
-    n + least ≡ sum_by (λ h. min (capacity_of lists h) (count_by (λ p. not (is_deleted deletions p)) (pairs_of_hospital lists h))) (below (k + 1))
+pub posts_more : (lists : Lists) (deletions : Deletions) (k n capacity count least : ℕ) (pairs : List PairNo) → ((p : ℕ) → is_in p (numbers_of pairs) ≡ is_in p (rising_pairs_of_hospital lists k)) → is_distinct (numbers_of pairs) ≡ true → count ≡ count_by (λ p. not (is_deleted deletions p)) (numbers_of pairs) →
+    capacity ≡ capacity_of lists k → least ≡ min capacity count → n ≡ sum_by (λ h. min (capacity_of lists h) (count_by (λ p. not (is_deleted deletions p)) (rising_pairs_of_hospital lists h))) (below k) →
+    n + least ≡ sum_by (λ h. min (capacity_of lists h) (count_by (λ p. not (is_deleted deletions p)) (rising_pairs_of_hospital lists h))) (below (k + 1))
 posts_more lists deletions k n capacity count least pairs alike distinct counts is_capacity is_least so_far =
     let left : ℕ → Bool = λ p. not (is_deleted deletions p) in
-    let here : count ≡ count_by left (pairs_of_hospital lists k) = counts ∙ count_alike left (numbers_of pairs) (pairs_of_hospital lists k) distinct (numbers_distinct lists k) alike in
+    let here : count ≡ count_by left (rising_pairs_of_hospital lists k) = counts ∙ count_alike left (numbers_of pairs) (rising_pairs_of_hospital lists k) distinct (numbers_distinct lists k) alike in
     ap₂ ◌+◌ so_far (is_least ∙ ap₂ min is_capacity here)
-    ∙ sym (sum_below (λ h. min (capacity_of lists h) (count_by left (pairs_of_hospital lists h))) k)
+    ∙ sym (sum_below (λ h. min (capacity_of lists h) (count_by left (rising_pairs_of_hospital lists h))) k)

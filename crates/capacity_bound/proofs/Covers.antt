@@ -5,10 +5,9 @@ use Rattle.std.proofs.lemmas.Bool.{cases_lt}
 use Rattle.std.proofs.lemmas.Int.{ints}
 use Rattle.std.proofs.lemmas.List.Sums.{sum_by-cons}
 use Rattle.hrt_base.specs.declared.literal.Term.{Term}
-use Rattle.pb_rows.specs.Terms.{IsRisingFrom, PlainRow, coef_sum, weighing}
+use Rattle.pb_rows.specs.Terms.{IsRisingFrom, PlainRow, coef_sum, weighing, positive_part}
 use Rattle.pb_rows.specs.Points.{Point, true_sum}
-use Rattle.pb_rows.specs.Normal.{or_zero}
-use Rattle.pb_rows.specs.Rows.{IsNormal, add, in_normal_form, literal_row}
+use Rattle.pb_rows.specs.Rows.{IsWellFormedRow, add, in_normal_form, literal_row}
 use Rattle.pb_rows.specs.Joined.{lost_all, signless_all, turned_sum}
 use Rattle.pb_rows.proofs.ByNets.{joined_form_is}
 use Rattle.pb_rows.proofs.Forms.{merged_is, put_all_sum_is}
@@ -16,7 +15,7 @@ use Rattle.pb_rows.proofs.Order.{determined, put_all_rising, rising_from}
 use Rattle.pb_rows.proofs.Signs.{signless_from}
 use Rattle.pb_rows.proofs.Values.{put_all_value}
 use Rattle.stability_model.specs.Model.{at_most, term}
-use Rattle.proof_rules.proofs.Fits.{or_zero_least}
+use Rattle.proof_rules.proofs.Fits.{positive_part_least}
 use Rattle.derivation.specs.Deletions.{unit_row}
 use Rattle.capacity_bound.proofs.Opposites.{AreOpposites, nothing_lost_all, put_all_opposites}
 
@@ -28,7 +27,7 @@ pub record Covers (row : PlainRow) (ps : List ℕ) (d : ℕ) : Type 0 where
   pub size : coef_sum row.terms ≡ length ps
   pub degree : row.degree ≡ d
 
-pub covers_normal : (row : PlainRow) (ps : List ℕ) (d : ℕ) → Covers row ps d → length ps ≤ 2 ^ 120 → d ≤ 2 ^ 120 → IsNormal row
+pub covers_normal : (row : PlainRow) (ps : List ℕ) (d : ℕ) → Covers row ps d → length ps ≤ 2 ^ 120 → d ≤ 2 ^ 120 → IsWellFormedRow row
 covers_normal row ps d c h k = record { rising = c.rising; fits = record { sum = omega (arith, h, c.size); degree = omega (arith, k, c.degree) } }
 
 -- ---- one row
@@ -57,10 +56,10 @@ turned_minus : (ps : List ℕ) → turned_sum (map (λ p. term (neg_ℤ (pos 1))
 turned_minus [] = refl
 turned_minus (p ∷ ps) = omega (arith, turned_minus ps)
 
-or_zero_minus : (c n : ℕ) → or_zero (neg_ℤ (pos c) +ℤ pos n) ≡ n - c
-or_zero_minus c n = elim (cases_lt n c) [
-  | inl less ↦ let z : or_zero (neg_ℤ (pos c) +ℤ pos n) ≤ 0 = or_zero_least (neg_ℤ (pos c) +ℤ pos n) 0 (omega (arith, ints)) in omega arith
-  | inr more ↦ let e : neg_ℤ (pos c) +ℤ pos n ≡ pos (n - c) = omega (arith, ints) in ap or_zero e
+positive_part_minus : (c n : ℕ) → positive_part (neg_ℤ (pos c) +ℤ pos n) ≡ n - c
+positive_part_minus c n = elim (cases_lt n c) [
+  | inl less ↦ let z : positive_part (neg_ℤ (pos c) +ℤ pos n) ≤ 0 = positive_part_least (neg_ℤ (pos c) +ℤ pos n) 0 (omega (arith, ints)) in omega arith
+  | inr more ↦ let e : neg_ℤ (pos c) +ℤ pos n ≡ pos (n - c) = omega (arith, ints) in ap positive_part e
 ]
 
 -- at most c of the pairs: at least as many opposites as there are more pairs
@@ -75,7 +74,7 @@ covers_at_most c ps =
       opposites = put_all_opposites [] us tt opposite;
       value = λ p. omega (arith, put_all_value p [] us, none, ap (true_sum p) (signless_minus ps), ones_value p ps);
       size = omega (arith, put_all_sum_is [] us, none, ap coef_sum (signless_minus ps), ones_size ps);
-      degree = omega (arith, none, ap (λ (n : ℕ). or_zero (neg_ℤ (pos c) +ℤ pos n)) (turned_minus ps), or_zero_minus c (length ps));
+      degree = omega (arith, none, ap (λ (n : ℕ). positive_part (neg_ℤ (pos c) +ℤ pos n)) (turned_minus ps), positive_part_minus c (length ps));
     })
 
 pub covers_unit : (p : ℕ) → Covers (unit_row p) (p ∷ []) 1

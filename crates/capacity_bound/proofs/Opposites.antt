@@ -3,7 +3,7 @@ use Rattle.std.proofs.Common.{◌≡◌, ◌+◌, true, List, [], ◌∷◌, ◌
 use Rattle.std.specs.List.{AllByRecursion}
 use Rattle.std.proofs.lemmas.Bool.{cases_order}
 use Rattle.hrt_base.specs.declared.literal.Term.{Term}
-use Rattle.pb_rows.specs.Terms.{weighing, weight}
+use Rattle.pb_rows.specs.Terms.{weighing, positive_part}
 use Rattle.pb_rows.specs.Joined.{are_alike, lost, lost_all, lost_between, met, put, put_all}
 use Rattle.pb_rows.proofs.Values.{put_above, put_at, put_below}
 
@@ -13,7 +13,7 @@ AreOpposites = AllByRecursion (λ (t : Term). t.lit.neg ≡ true)
 alike : (t u : Term) → t.lit.neg ≡ true → u.lit.neg ≡ true → are_alike t u ≡ true
 alike t u h k = rw (h, k) refl
 
-met_alike : (t u : Term) → t.lit.neg ≡ true → u.lit.neg ≡ true → met t u ≡ weighing (weight t.coef + weight u.coef) u.lit ∷ []
+met_alike : (t u : Term) → t.lit.neg ≡ true → u.lit.neg ≡ true → met t u ≡ weighing (positive_part t.coef + positive_part u.coef) u.lit ∷ []
 met_alike t u h k = rw (alike t u h k) refl
 
 nothing_between : (t u : Term) → t.lit.neg ≡ true → u.lit.neg ≡ true → lost_between t u ≡ 0

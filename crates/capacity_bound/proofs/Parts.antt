@@ -10,12 +10,12 @@ use Rattle.hrt_base.specs.declared.numbered.RowNo.{RowNo}
 use Rattle.pb_rows.specs.Rows.{in_normal_form}
 use Rattle.pb_rows.specs.Formula.{NumberedRow, row_of}
 use Rattle.rank_tables.specs.Numbers.{below, is_distinct, is_in, numbers_to}
-use Rattle.rank_tables.specs.Instance.{Lists, capacity_of, pair_at, pair_count, pairs_as_listed, pairs_of_hospital, pairs_of_resident}
+use Rattle.rank_tables.specs.Instance.{Lists, capacity_of, pair_at, pair_count, pairs_as_listed, rising_pairs_of_hospital, pairs_of_resident}
 use Rattle.rank_tables.specs.Tables.{IsOfHospital, IsOfResident, IsPairNo}
 use Rattle.rank_tables.specs.WellFormed.{IsWellFormed}
 use Rattle.rank_tables.proofs.Below.{length-numbers_to}
 use Rattle.rank_tables.proofs.Numbers.{distinct-filter, distinct-numbers_to, is_in-numbers_to, list_any-count, sum_by_same}
-use Rattle.rank_tables.proofs.PairFacts.{pair_at-acceptable, pairs_as_listed-each, pairs_of_hospital-each, pairs_of_resident-each}
+use Rattle.rank_tables.proofs.PairFacts.{pair_at-acceptable, pairs_as_listed-each, rising_pairs_of_hospital-each, pairs_of_resident-each}
 use Rattle.rank_tables.proofs.SamePairs.{listed-distinct, listed-same}
 use Rattle.stability_model.specs.Model.{IsRow, at_most, has_any, hospital_has_pair, hospital_row_no, resident_has_pair, resident_row_no, resident_rows, rows}
 use Rattle.stability_model.specs.Gone.{posts_left, residents_left}
@@ -24,7 +24,7 @@ use Rattle.stability_model.proofs.Counts.{count_alike}
 use Rattle.proof_lines.specs.declared.line.PolStep.TheVariants.{Id}
 use Rattle.proof_lines.specs.Spelling.{row_no}
 use Rattle.proof_rules.specs.States.{AreNumbered}
-use Rattle.derivation.specs.Deletions.{AreUnitRows, Deletions, is_deleted, unit_of, unit_row}
+use Rattle.derivation.specs.Deletions.{AreUnitRows, Deletions, is_deleted, unit_row_no, unit_row}
 use Rattle.capacity_bound.specs.Steps.{hospital_operands, pair_operand, resident_operands, row_operand, unit_or_axiom}
 use Rattle.capacity_bound.proofs.ByKinds.{count_all, count_lists, count_others, length_lists, sum_by_kinds}
 use Rattle.capacity_bound.proofs.Covers.{covers_at_most, covers_unit}
@@ -65,11 +65,11 @@ whole_length n ps h = sym (count_all ps) ∙ h (λ p. true) ∙ count_all (numbe
 
 -- ---- a hospital's pairs in the order of its list
 
-pub numbers_distinct : (lists : Lists) (h : ℕ) → is_distinct (pairs_of_hospital lists h) ≡ true
+pub numbers_distinct : (lists : Lists) (h : ℕ) → is_distinct (rising_pairs_of_hospital lists h) ≡ true
 numbers_distinct lists h = distinct-filter (λ p. (pair_at lists p).hospital == h) (numbers_to (pair_count lists)) (distinct-numbers_to (pair_count lists))
 
-listed_count : (lists : Lists) → IsWellFormed lists → (h : ℕ) (t : ℕ → Bool) → count_by t (pairs_as_listed lists h) ≡ count_by t (pairs_of_hospital lists h)
-listed_count lists formed h t = count_alike t (pairs_as_listed lists h) (pairs_of_hospital lists h) (listed-distinct lists formed h) (numbers_distinct lists h) (listed-same lists formed h)
+listed_count : (lists : Lists) → IsWellFormed lists → (h : ℕ) (t : ℕ → Bool) → count_by t (pairs_as_listed lists h) ≡ count_by t (rising_pairs_of_hospital lists h)
+listed_count lists formed h t = count_alike t (pairs_as_listed lists h) (rising_pairs_of_hospital lists h) (listed-distinct lists formed h) (numbers_distinct lists h) (listed-same lists formed h)
 
 -- ---- operands
 
@@ -89,7 +89,7 @@ module _ (lists : Lists) (deletions : Deletions) (live : List NumberedRow) (next
     behind = ps;
     here = if is_deleted deletions p then 1 else 0;
     after = count_by (is_deleted deletions) ps;
-    first = pair_is p a.0 (unit_of deletions p) (units p);
+    first = pair_is p a.0 (unit_row_no deletions p) (units p);
     others = pairs_amount ps a.1;
     pairs_are = refl;
     degree_is = sum_by-cons (λ q. if is_deleted deletions q then 1 else 0) p ps;
@@ -147,30 +147,30 @@ module _ (lists : Lists) (deletions : Deletions) (live : List NumberedRow) (next
 
   -- ---- by hospitals
 
-  hospital_declared : (h : ℕ) → 1 ≤ length (pairs_of_hospital lists h) → h < length lists.hospitals
+  hospital_declared : (h : ℕ) → 1 ≤ length (rising_pairs_of_hospital lists h) → h < length lists.hospitals
   hospital_declared h some =
-      let first : IsOfHospital lists h (get_or (pairs_of_hospital lists h) 0 0) = pairs_of_hospital-each lists h 0 0 some in
-      subst (λ (k : ℕ). k < length lists.hospitals) first.hospital (pair_at-acceptable lists (get_or (pairs_of_hospital lists h) 0 0) first.number).hospital_declared
+      let first : IsOfHospital lists h (get_or (rising_pairs_of_hospital lists h) 0 0) = rising_pairs_of_hospital-each lists h 0 0 some in
+      subst (λ (k : ℕ). k < length lists.hospitals) first.hospital (pair_at-acceptable lists (get_or (rising_pairs_of_hospital lists h) 0 0) first.number).hospital_declared
 
   listed_numbers : (h : ℕ) → AllByRecursion (IsPairNo lists) (pairs_as_listed lists h)
   listed_numbers h = recursion_from_All (IsPairNo lists) (pairs_as_listed lists h) (λ k d l. (pairs_as_listed-each lists h k d l).number)
 
   abbrev pub is_over : ℕ → Bool
-  is_over h = nat_lt (capacity_of lists h) (count_by is_left (pairs_of_hospital lists h))
+  is_over h = nat_lt (capacity_of lists h) (count_by is_left (rising_pairs_of_hospital lists h))
 
   -- in the order in which the operands name them
   abbrev pub list_of_hospital : ℕ → Bool → List ℕ
-  list_of_hospital h b = if b then pairs_of_hospital lists h else pairs_as_listed lists h
+  list_of_hospital h b = if b then rising_pairs_of_hospital lists h else pairs_as_listed lists h
 
   abbrev pub counted_of_hospital : ℕ → Bool → ℕ
-  counted_of_hospital h b = if b then capacity_of lists h else count_by is_left (pairs_of_hospital lists h)
+  counted_of_hospital h b = if b then capacity_of lists h else count_by is_left (rising_pairs_of_hospital lists h)
 
   module _ (formed : IsWellFormed lists) where
     hospital_part : (h : ℕ) (b : Bool) → is_over h ≡ b →
         Amounts (pair_count lists) live (if b then row_operand (hospital_row_no lists h) else map (pair_operand deletions) (pairs_as_listed lists h)) (list_of_hospital h b)
         (length (list_of_hospital h b) - counted_of_hospital h b)
     hospital_part h true e =
-        let ps : List ℕ = pairs_of_hospital lists h in
+        let ps : List ℕ = rising_pairs_of_hospital lists h in
         let c : ℕ = capacity_of lists h in
         let has = count_has is_left ps c (ltb-true c (count_by is_left ps) e) in
         let k : ℕ = length (resident_rows lists) + count_by (hospital_has_pair lists) (below h) + 1 in
@@ -187,11 +187,11 @@ module _ (lists : Lists) (deletions : Deletions) (live : List NumberedRow) (next
 
     over_within : (h : ℕ) (b : Bool) → is_over h ≡ b → (length (list_of_hospital h b) - counted_of_hospital h b) + counted_of_hospital h b ≡ length (list_of_hospital h b)
     over_within h true e =
-        let more : capacity_of lists h < count_by is_left (pairs_of_hospital lists h) = ltb-true (capacity_of lists h) (count_by is_left (pairs_of_hospital lists h)) e in
-        omega (arith, count_others (is_deleted deletions) (pairs_of_hospital lists h))
+        let more : capacity_of lists h < count_by is_left (rising_pairs_of_hospital lists h) = ltb-true (capacity_of lists h) (count_by is_left (rising_pairs_of_hospital lists h)) e in
+        omega (arith, count_others (is_deleted deletions) (rising_pairs_of_hospital lists h))
     over_within h false e = omega (arith, count_others (is_deleted deletions) (pairs_as_listed lists h), listed_count lists formed h is_left)
 
-    list_count : (h : ℕ) (b : Bool) (t : ℕ → Bool) → count_by t (list_of_hospital h b) ≡ count_by t (pairs_of_hospital lists h)
+    list_count : (h : ℕ) (b : Bool) (t : ℕ → Bool) → count_by t (list_of_hospital h b) ≡ count_by t (rising_pairs_of_hospital lists h)
     list_count h true t = refl
     list_count h false t = listed_count lists formed h t
 
@@ -204,6 +204,6 @@ module _ (lists : Lists) (deletions : Deletions) (live : List NumberedRow) (next
     pub hospitals_sum : sum_by (λ h. length (list_of_hospital h (is_over h)) - counted_of_hospital h (is_over h)) (below (length lists.hospitals)) + posts_left lists (is_deleted deletions) ≡ pair_count lists
     hospitals_sum =
         ap (λ (n : ℕ). sum_by (λ h. length (list_of_hospital h (is_over h)) - counted_of_hospital h (is_over h)) (below (length lists.hospitals)) + n)
-        (sym (sum_by_same (λ h. counted_of_hospital h (is_over h)) _ (below (length lists.hospitals)) (λ h. the_smaller (is_over h) (capacity_of lists h) (count_by is_left (pairs_of_hospital lists h)) refl)))
+        (sym (sum_by_same (λ h. counted_of_hospital h (is_over h)) _ (below (length lists.hospitals)) (λ h. the_smaller (is_over h) (capacity_of lists h) (count_by is_left (rising_pairs_of_hospital lists h)) refl)))
         ∙ length_lists (λ h. list_of_hospital h (is_over h)) _ (λ h. counted_of_hospital h (is_over h)) (λ h. over_within h (is_over h) refl) (below (length lists.hospitals))
         ∙ whole_length (pair_count lists) (flat_map (λ h. list_of_hospital h (is_over h)) (below (length lists.hospitals))) hospitals_count

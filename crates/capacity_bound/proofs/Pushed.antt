@@ -4,7 +4,7 @@ use Rattle.std.specs.Prelude.{Option}
 use Rattle.std.specs.List.{list_any}
 use Rattle.std.proofs.lemmas.Bool.{le-ltb, lt-ltb}
 use Rattle.hrt_base.specs.declared.numbered.PairNo.{PairNo}
-use Rattle.rank_tables.specs.Instance.{Lists, capacity_of, pairs_as_listed, pairs_of_hospital, pairs_of_resident}
+use Rattle.rank_tables.specs.Instance.{Lists, capacity_of, pairs_as_listed, rising_pairs_of_hospital, pairs_of_resident}
 use Rattle.rank_tables.specs.Tables.{numbers_of}
 use Rattle.rank_tables.specs.Numbers.{is_distinct, is_in}
 use Rattle.rank_tables.proofs.Numbers.{list_any-count}
@@ -35,11 +35,11 @@ module _ (lists seen : Lists) (same : seen ≡ lists) (deletions : Deletions) (k
 
   -- ---- a hospital
 
-  module _ (numbers : numbers_of pairs ≡ pairs_as_listed lists k) (alike : (p : ℕ) → is_in p (numbers_of pairs) ≡ is_in p (pairs_of_hospital lists k)) (distinct : is_distinct (numbers_of pairs) ≡ true) (capacity : ℕ) (is_capacity : capacity ≡ capacity_of lists k) where
-    over_is : nat_lt (capacity_of lists k) (count_by (λ p. not (is_deleted deletions p)) (pairs_of_hospital lists k)) ≡ nat_lt capacity count
+  module _ (numbers : numbers_of pairs ≡ pairs_as_listed lists k) (alike : (p : ℕ) → is_in p (numbers_of pairs) ≡ is_in p (rising_pairs_of_hospital lists k)) (distinct : is_distinct (numbers_of pairs) ≡ true) (capacity : ℕ) (is_capacity : capacity ≡ capacity_of lists k) where
+    over_is : nat_lt (capacity_of lists k) (count_by (λ p. not (is_deleted deletions p)) (rising_pairs_of_hospital lists k)) ≡ nat_lt capacity count
     over_is =
-        ap (λ (c : ℕ). nat_lt c (count_by (λ p. not (is_deleted deletions p)) (pairs_of_hospital lists k))) (sym is_capacity)
-        ∙ ap (nat_lt capacity) (sym (counts ∙ count_alike (λ p. not (is_deleted deletions p)) (numbers_of pairs) (pairs_of_hospital lists k) distinct (numbers_distinct lists k) alike))
+        ap (λ (c : ℕ). nat_lt c (count_by (λ p. not (is_deleted deletions p)) (rising_pairs_of_hospital lists k))) (sym is_capacity)
+        ∙ ap (nat_lt capacity) (sym (counts ∙ count_alike (λ p. not (is_deleted deletions p)) (numbers_of pairs) (rising_pairs_of_hospital lists k) distinct (numbers_distinct lists k) alike))
 
     choice : (b : Bool) → nat_lt capacity count ≡ b → (if b then row_operand (hospital_row_no lists k) else map (pair_operand deletions) (pairs_as_listed lists k)) ≡ hospital_operands lists deletions k
     choice b e = ap (λ (c : Bool). if c then row_operand (hospital_row_no lists k) else map (pair_operand deletions) (pairs_as_listed lists k)) (sym (over_is ∙ e))

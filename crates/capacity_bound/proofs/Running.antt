@@ -15,7 +15,7 @@ use Rattle.row_text.proofs.RowWords.{spaced_append}
 use Rattle.proof_lines.specs.declared.line.PolStep.{PolStep}
 use Rattle.proof_lines.specs.declared.line.PolStep.TheVariants.{Add}
 use Rattle.proof_lines.specs.Spelling.{is_small_step}
-use Rattle.proof_lines.specs.Texts.{is_made_step, is_some_of, step_words}
+use Rattle.proof_lines.specs.Texts.{is_spellable_step, is_nonempty_and_all, step_words}
 use Rattle.proof_rules.specs.Refusals.{Refusal, TooBig, and_then}
 use Rattle.proof_rules.specs.Pol.{run_step, run_steps}
 use Rattle.proof_rules.proofs.Fits.{fits_true}
@@ -30,7 +30,7 @@ pub record Operand (vars : ℕ) (live : List NumberedRow) (step : PolStep) (ps :
   pub covers : Covers row ps d
   pub some : 1 ≤ length ps
   pub within : d ≤ length ps
-  pub made : is_made_step step ≡ true
+  pub made : is_spellable_step step ≡ true
   pub small : is_small_step step ≡ true
   pub short : length (spaced (step_words step)) ≤ 19
 
@@ -158,9 +158,9 @@ module _ (vars : ℕ) (live : List NumberedRow) where
   each_small [] ps d a = refl
   each_small (step ∷ steps) ps d a = and_from (is_small_step step) (list_all is_small_step steps) a.first.small (each_small steps a.behind a.after a.others)
 
-  pub each_made : (steps : List PolStep) (ps : List ℕ) (d : ℕ) → Amounts vars live steps ps d → list_all is_made_step steps ≡ true
+  pub each_made : (steps : List PolStep) (ps : List ℕ) (d : ℕ) → Amounts vars live steps ps d → list_all is_spellable_step steps ≡ true
   each_made [] ps d a = refl
-  each_made (step ∷ steps) ps d a = and_from (is_made_step step) (list_all is_made_step steps) a.first.made (each_made steps a.behind a.after a.others)
+  each_made (step ∷ steps) ps d a = and_from (is_spellable_step step) (list_all is_spellable_step steps) a.first.made (each_made steps a.behind a.after a.others)
 
   words_behind : (xs ys : List PolStep) → length (spaced (flat_map step_words (xs ++ ys))) ≡ length (spaced (flat_map step_words xs)) + length (spaced (flat_map step_words ys))
   words_behind xs ys =
@@ -196,9 +196,9 @@ some_steps : (sum : Sum) → 0 < length (steps_of sum)
 some_steps (Row operand) = omega arith
 some_steps (Both one two) = omega (arith, some_steps one, length-append (steps_of one) (steps_of two ++ Add ∷ []))
 
-some_all : (t : PolStep → Bool) (steps : List PolStep) → 0 < length steps → list_all t steps ≡ true → is_some_of t steps ≡ true
+some_all : (t : PolStep → Bool) (steps : List PolStep) → 0 < length steps → list_all t steps ≡ true → is_nonempty_and_all t steps ≡ true
 some_all t [] h e = absurd (omega arith)
 some_all t (step ∷ steps) h e = e
 
-pub sum_made : (sum : Sum) → list_all is_made_step (operands_of sum) ≡ true → is_some_of is_made_step (steps_of sum) ≡ true
-sum_made sum h = some_all is_made_step (steps_of sum) (some_steps sum) (all_steps is_made_step refl sum h)
+pub sum_made : (sum : Sum) → list_all is_spellable_step (operands_of sum) ≡ true → is_nonempty_and_all is_spellable_step (steps_of sum) ≡ true
+sum_made sum h = some_all is_spellable_step (steps_of sum) (some_steps sum) (all_steps is_spellable_step refl sum h)

@@ -3,13 +3,13 @@ use Rattle.std.specs.Prelude.{◌≡◌, ◌++◌, ℕ, true, not, nat_le, nat_l
 use Rattle.std.specs.List.{list_any}
 use Rattle.hrt_base.specs.declared.numbered.RowNo.{RowNo}
 use Rattle.rank_tables.specs.Numbers.{below}
-use Rattle.rank_tables.specs.Instance.{Lists, capacity_of, pairs_as_listed, pairs_of_hospital, pairs_of_resident}
+use Rattle.rank_tables.specs.Instance.{Lists, capacity_of, pairs_as_listed, rising_pairs_of_hospital, pairs_of_resident}
 use Rattle.stability_model.specs.Model.{hospital_row_no, resident_row_no}
 use Rattle.stability_model.specs.Gone.{posts_left, residents_left}
 use Rattle.proof_lines.specs.declared.line.PolStep.{PolStep}
 use Rattle.proof_lines.specs.declared.line.PolStep.TheVariants.{Id, Axiom, Add}
 use Rattle.proof_lines.specs.Spelling.{row_no}
-use Rattle.derivation.specs.Deletions.{Deletions, is_deleted, unit_of}
+use Rattle.derivation.specs.Deletions.{Deletions, is_deleted, unit_row_no}
 
 -- ---- operands: each names a row that is added
 
@@ -20,7 +20,7 @@ unit_or_axiom p (Some id) = Id id
 
 -- the row `~x >= 1` of a deleted pair, and `~x >= 0` for another one
 abbrev pub pair_operand : Deletions → ℕ → PolStep
-pair_operand map p = unit_or_axiom p (unit_of map p)
+pair_operand map p = unit_or_axiom p (unit_row_no map p)
 
 -- a row of the model
 abbrev pub row_operand : Option ℕ → List PolStep
@@ -36,7 +36,7 @@ resident_operands lists deletions r =
 -- a hospital with more pairs left than posts gives its row, another the rows of its pairs
 abbrev pub hospital_operands : Lists → Deletions → ℕ → List PolStep
 hospital_operands lists deletions h =
-    if nat_lt (capacity_of lists h) (count_by (λ p. not (is_deleted deletions p)) (pairs_of_hospital lists h)) then row_operand (hospital_row_no lists h)
+    if nat_lt (capacity_of lists h) (count_by (λ p. not (is_deleted deletions p)) (rising_pairs_of_hospital lists h)) then row_operand (hospital_row_no lists h)
     else map (pair_operand deletions) (pairs_as_listed lists h)
 
 -- by residents where they are no more than the posts, else by hospitals

@@ -12,7 +12,7 @@ use Rattle.proof_lines.specs.declared.line.Claim.{Claim}
 use Rattle.proof_lines.specs.declared.note.Note.{Note}
 use Rattle.proof_lines.specs.Spelling.{is_small_claim, most_bytes, read_line}
 use Rattle.proof_lines.specs.Notes.{note_in}
-use Rattle.proof_lines.specs.Texts.{is_made_note, line_text, note_spelling, note_text, spelling}
+use Rattle.proof_lines.specs.Texts.{is_spellable_note, line_text, note_spelling, note_text, spelling}
 use Rattle.proof_rules.specs.States.{State, first_state}
 use Rattle.proof_rules.specs.Claims.{Shows}
 use Rattle.proof_rules.specs.Valid.{Place, Start, Headed, Proving, Closing, Claimed, Done, Moves}
@@ -47,7 +47,7 @@ module _ (lists : Lists) (bytes : List ℕ) (line : Line) (here there : Place) (
 
 -- ---- one note
 
-module _ (lists : Lists) (bytes : List ℕ) (note : Note) (s : State) (held : Held) (leads : IsProofUpTo lists bytes (Proving s) held) (made : IsTrue (is_made_note note)) (short : length (note_text note) ≤ most_bytes) (so : IsTrueNote lists s.live held note) where
+module _ (lists : Lists) (bytes : List ℕ) (note : Note) (s : State) (held : Held) (leads : IsProofUpTo lists bytes (Proving s) held) (made : IsTrue (is_spellable_note note)) (short : length (note_text note) ≤ most_bytes) (so : IsTrueNote lists s.live held note) where
   says : note_in (note_spelling note) ≡ Some note
   says = note_reads note made short
 
@@ -83,7 +83,7 @@ stays-step line old new w other begun taken text stands =
     (subst (λ (bytes : List ℕ). IsProofUpTo old.lists bytes (Proving new.state) (after_line (Proving old.state) (Some line) old.held)) (append_assoc text old.pending (line_text line))
     (leads_line old.lists (text ++ old.pending) line (Proving old.state) (Proving new.state) old.held (open_leads text old begun stands) w other (step-moves (formula old.lists) old.state line new.state taken.step))))
 
-pub stays-note : (note : Note) (old new : Derived) → IsTrue (is_made_note note) → length (note_text note) ≤ most_bytes → IsTrueNote old.lists old.state.live old.held note → old.claim ≡ None → new ≡ with_note note old →
+pub stays-note : (note : Note) (old new : Derived) → IsTrue (is_spellable_note note) → length (note_text note) ≤ most_bytes → IsTrueNote old.lists old.state.live old.held note → old.claim ≡ None → new ≡ with_note note old →
     StaysValid old new
 stays-note note old new made short so begun is text stands =
     subst (StandsFor text) (sym is)

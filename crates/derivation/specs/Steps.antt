@@ -14,7 +14,7 @@ use Rattle.proof_lines.specs.declared.line.Line.TheVariants.{Header, Count, Outp
 use Rattle.proof_lines.specs.declared.note.Note.{Note}
 use Rattle.proof_lines.specs.declared.note.Note.TheVariants.{Unit as UnitRow, Bound as BoundRow}
 use Rattle.proof_lines.specs.Spelling.{is_small_line, most_bytes}
-use Rattle.proof_lines.specs.Texts.{is_made, line_text, note_text}
+use Rattle.proof_lines.specs.Texts.{is_spellable, line_text, note_text}
 use Rattle.proof_rules.specs.Refusals.{Refusal, TooBig}
 use Rattle.proof_rules.specs.States.{Step, first_state, smaller, with_row}
 use Rattle.proof_rules.specs.Valid.{Proving}
@@ -27,7 +27,7 @@ use Rattle.derivation.specs.Derived.{Derived}
 
 -- the line has a spelling that isn't too long, and no number in it is too big
 pub record IsWritable (line : Line) : Type 0 where
-  pub made : IsTrue (is_made line)
+  pub made : IsTrue (is_spellable line)
   pub small : IsTrue (is_small_line line)
   pub short : length (line_text line) ≤ most_bytes
 

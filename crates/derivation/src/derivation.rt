@@ -9,7 +9,7 @@ ghost use Rattle.pb_rows.specs.Formula.{is_numbered, row_of};
 ghost use Rattle.rank_tables.specs.Instance.{pair_count};
 ghost use Rattle.stability_model.specs.Model.{all_rows_hold, formula};
 ghost use Rattle.proof_lines.specs.Spelling.{most_bytes};
-ghost use Rattle.proof_lines.specs.Texts.{is_made_note, note_text};
+ghost use Rattle.proof_lines.specs.Texts.{is_spellable_note, note_text};
 ghost use Rattle.proof_rules.specs.Pol.{pol_row};
 ghost use Rattle.proof_rules.specs.States.{IsInOrder, deleted, live_rows};
 ghost use Rattle.proof_rules.specs.Claims.{Shows};
@@ -244,7 +244,7 @@ impl<'a> Derivation<'a> {
         requires same { model.now ≡ self.old.lists }
         requires open { self.old.claim ≡ None }
         requires live { NamesLiveRow self.old.state.live note.now }
-        requires made { IsTrue (is_made_note note.now) }
+        requires made { IsTrue (is_spellable_note note.now) }
         requires short { length (note_text note.now) ≤ most_bytes }
         ensures note { TriesNote result note.now self.old self.new }
         ensures valid { StaysValid self.old self.new }

@@ -6,8 +6,8 @@ use Rattle.std.proofs.lemmas.Bool.{cases_Bool, le-leb}
 use Rattle.std.proofs.lemmas.Fmt.{length_signed_le}
 use Rattle.std.proofs.lemmas.Int.{ints}
 use Rattle.hrt_base.specs.declared.numbered.RowNo.{RowNo}
-use Rattle.pb_rows.specs.Terms.{PlainRow}
-use Rattle.pb_rows.specs.Normal.{normal_form, or_zero}
+use Rattle.pb_rows.specs.Terms.{PlainRow, positive_part}
+use Rattle.pb_rows.specs.Normal.{normal_form}
 use Rattle.pb_rows.specs.Closure.{Implies}
 use Rattle.pb_rows.specs.Formula.{NumberedRow, row_of, rows_of}
 use Rattle.rank_tables.specs.Numbers.{numbers_to}
@@ -67,12 +67,12 @@ row_contained (e ∷ es) n r h = elim (cases_Bool (e.number == n)) [
   | inr not ↦ let c = row_contained es n r (rw not at h) in (c.0 + 1, omega arith, rw add-one c.2)
 ]
 
-none_below : (n : ℕ) → or_zero (value_of n) ≡ 0
+none_below : (n : ℕ) → positive_part (value_of n) ≡ 0
 none_below zero = refl
 none_below (suc n) = refl
 
 no_terms : (n : ℕ) → (normal_form [] (value_of n)).degree ≡ 0
-no_terms n = let same : (value_of n -ℤ pos 0) +ℤ pos 0 ≡ value_of n = omega (arith, ints) in ap or_zero same ∙ none_below n
+no_terms n = let same : (value_of n -ℤ pos 0) +ℤ pos 0 ≡ value_of n = omega (arith, ints) in ap positive_part same ∙ none_below n
 
 -- without pairs the objective is 0
 nothing_asked : (lists : Lists) (n : ℕ) → pair_count lists ≡ 0 → (at_least_row (formula lists) (value_of n)).degree ≡ 0

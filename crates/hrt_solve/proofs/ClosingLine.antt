@@ -19,7 +19,7 @@ use Rattle.proof_lines.specs.declared.line.PolStep.{PolStep}
 use Rattle.proof_lines.specs.declared.line.PolStep.TheVariants.{Id, Add}
 use Rattle.proof_lines.specs.declared.line.Line.TheVariants.{Pol}
 use Rattle.proof_lines.specs.Spelling.{row_no}
-use Rattle.proof_lines.specs.Texts.{is_made_id, line_text}
+use Rattle.proof_lines.specs.Texts.{is_spellable_id, line_text}
 use Rattle.proof_rules.specs.Refusals.{Refusal, and_then}
 use Rattle.proof_rules.specs.Pol.{fits, pol_row}
 use Rattle.proof_rules.specs.States.{IsInOrder, State, minus_terms, with_row}
@@ -62,7 +62,7 @@ closing_fits lists n size few h k =
 
 -- ---- the line
 
-made_id : (n : ℕ) → 1 ≤ n → n < 10 ^ 18 → is_made_id (row_no n) ≡ true
+made_id : (n : ℕ) → 1 ≤ n → n < 10 ^ 18 → is_spellable_id (row_no n) ≡ true
 made_id n first last = and_from (nat_le 1 n) (nat_le n (10 ^ 18 - 1)) (le-leb 1 n first) (le-leb n (10 ^ 18 - 1) (omega arith))
 
 module _ (lists : Lists) (n size : ℕ) (bound larger : RowNo) (old : Derived) (few : pair_count old.lists ≤ 100000) (n_small : n < 2 ^ 32) (size_small : size < 2 ^ 32) (has : HasBoundRow old.lists n (Some bound) old) (asks : row_of larger.0 old.state.live ≡ Some (larger_row old.lists size)) where
@@ -74,7 +74,7 @@ module _ (lists : Lists) (n size : ℕ) (bound larger : RowNo) (old : Derived) (
       let a = live_within bound.0 old.state.next _ old.state.live order has in
       let b = live_within larger.0 old.state.next _ old.state.live order asks in
       record {
-        made = and_from (is_made_id bound) (is_made_id larger && true) (made_id bound.0 a.0 (omega (arith, a.1))) (and_from (is_made_id larger) true (made_id larger.0 b.0 (omega (arith, b.1))) refl);
+        made = and_from (is_spellable_id bound) (is_spellable_id larger && true) (made_id bound.0 a.0 (omega (arith, a.1))) (and_from (is_spellable_id larger) true (made_id larger.0 b.0 (omega (arith, b.1))) refl);
         small = refl;
         short =
             omega (

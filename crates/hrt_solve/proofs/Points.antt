@@ -20,7 +20,7 @@ use Rattle.row_text.specs.Tokens.{spaced}
 use Rattle.stability_model.specs.Model.{all_rows_hold, objective, pairs_of_point}
 use Rattle.stability_model.proofs.ModelExact.{ModelExact, ObjectiveExact}
 use Rattle.proof_lines.specs.declared.line.Line.TheVariants.{Soli}
-use Rattle.proof_lines.specs.Texts.{is_made_literal}
+use Rattle.proof_lines.specs.Texts.{is_spellable_literal}
 use Rattle.derivation.specs.Steps.{IsWritable, literal_at, literals_at}
 use Rattle.hrt_solve.specs.Gauged.{value_of}
 use Rattle.hrt_solve.specs.Logged.{IsPointOf}
@@ -68,11 +68,11 @@ module _ (lists : Lists) (pairs : List PairNo) (bits : List Bool) (is : IsPointO
 abbrev IsNear : ℕ → Type 0
 IsNear v = (1 ≤ v) × (v ≤ 100000)
 
-literals_made : (p : Point) (ns : List ℕ) → All IsNear ns → list_all is_made_literal (map (literal_at p) ns) ≡ true
+literals_made : (p : Point) (ns : List ℕ) → All IsNear ns → list_all is_spellable_literal (map (literal_at p) ns) ≡ true
 literals_made p [] all = refl
 literals_made p (v ∷ ns) all =
     let near : IsNear v = all zero v (omega arith) in
-    and_from (is_made_literal (literal_at p v)) (list_all is_made_literal (map (literal_at p) ns))
+    and_from (is_spellable_literal (literal_at p v)) (list_all is_spellable_literal (map (literal_at p) ns))
     (and_from (nat_le 1 v) (nat_le v 4294967295) (le-leb 1 v near.0) (le-leb v 4294967295 (omega (arith, near.1)))) (literals_made p ns (All-tail IsNear v ns all))
 
 literal_short : (neg : Bool) (v : ℕ) → v ≤ 100000 → length (literal_text (record { var = v; neg = neg })) ≤ 12

@@ -7,9 +7,9 @@ use Rattle.std.proofs.lemmas.Bool.Decides.{nat_tests}
 use Rattle.std.proofs.lemmas.Int.{ints}
 use Rattle.std.proofs.lemmas.List.Elements.{All-map}
 use Rattle.hrt_base.specs.declared.literal.Term.{Term}
-use Rattle.pb_rows.specs.Terms.{IsPositive, IsRisingFrom, PlainRow, Written, coef_sum, weight}
+use Rattle.pb_rows.specs.Terms.{IsPositive, IsRisingFrom, PlainRow, Written, coef_sum, positive_part}
 use Rattle.pb_rows.specs.Points.{IsCovered, Point, is_true_at, true_sum, value_at}
-use Rattle.pb_rows.specs.Normal.{gained, joined, negative_part, net, net_term, normal_form, on_opposites, or_zero, sizes, var_bound}
+use Rattle.pb_rows.specs.Normal.{gained, joined, negative_part, net, net_term, normal_form, on_opposites, sizes, var_bound}
 use Rattle.pb_rows.specs.Rows.{in_normal_form}
 use Rattle.pb_rows.specs.Joined.{put_all, signless_all}
 use Rattle.pb_rows.proofs.ByNets.{holds-normal_form, joined_form_is, joined_rising, normal_form-same}
@@ -23,11 +23,11 @@ use Rattle.opb_text.specs.Spelling.{canonical, without_opposite}
 -- the sum of the coefficients on opposites
 on_negated : List Term → ℕ
 on_negated [] = 0
-on_negated (t ∷ ts) = (if t.lit.neg then weight t.coef else 0) + on_negated ts
+on_negated (t ∷ ts) = (if t.lit.neg then positive_part t.coef else 0) + on_negated ts
 
 value_step : (c : ℤ) (v : ℕ) (neg here : Bool) (p : Point) (value : ℤ) (more sum : ℕ) → IsPositive c → p v ≡ here → value +ℤ pos more ≡ pos sum
-    → value_at p (without_opposite (record { coef = c; lit = record { var = v; neg = neg } }) ∷ []) +ℤ value +ℤ pos ((if neg then weight c else 0) + more)
-    ≡ pos ((if is_true_at p (record { var = v; neg = neg }) then weight c else 0) + sum)
+    → value_at p (without_opposite (record { coef = c; lit = record { var = v; neg = neg } }) ∷ []) +ℤ value +ℤ pos ((if neg then positive_part c else 0) + more)
+    ≡ pos ((if is_true_at p (record { var = v; neg = neg }) then positive_part c else 0) + sum)
 value_step (pos n) v true true p value more sum h here e = rw here (omega (arith, ints))
 value_step (pos n) v true false p value more sum h here e = rw here (omega (arith, ints))
 value_step (pos n) v false true p value more sum h here e = rw here (omega (arith, ints))
@@ -64,12 +64,12 @@ joined_negated zero ts = refl
 joined_negated (suc v) ts = omega (arith, negated-append (joined v ts) (net_term v (net v ts)), joined_negated v ts, net_negated v (net v ts))
 
 -- a number is known by which are at most it
-from_below : (v : ℤ) (t : ℕ) (z : ℤ) → ((a : ℤ) → nat_le (or_zero (a +ℤ z)) t ≡ int_le a v) → v +ℤ z ≡ pos t
+from_below : (v : ℤ) (t : ℕ) (z : ℤ) → ((a : ℤ) → nat_le (positive_part (a +ℤ z)) t ≡ int_le a v) → v +ℤ z ≡ pos t
 from_below v t z h =
     let low : int_le (pos t -ℤ z) v ≡ true =
-    sym (h (pos t -ℤ z)) ∙ ap (λ (y : ℤ). nat_le (or_zero y) t) (let e : (pos t -ℤ z) +ℤ z ≡ pos t = omega (arith, ints) in e) ∙ le-leb t t (omega arith) in
+    sym (h (pos t -ℤ z)) ∙ ap (λ (y : ℤ). nat_le (positive_part y) t) (let e : (pos t -ℤ z) +ℤ z ≡ pos t = omega (arith, ints) in e) ∙ le-leb t t (omega arith) in
     let high : int_le (pos (suc t) -ℤ z) v ≡ false =
-    sym (h (pos (suc t) -ℤ z)) ∙ ap (λ (y : ℤ). nat_le (or_zero y) t) (let e : (pos (suc t) -ℤ z) +ℤ z ≡ pos (suc t) = omega (arith, ints) in e) ∙ above t in
+    sym (h (pos (suc t) -ℤ z)) ∙ ap (λ (y : ℤ). nat_le (positive_part y) t) (let e : (pos (suc t) -ℤ z) +ℤ z ≡ pos (suc t) = omega (arith, ints) in e) ∙ above t in
     grind (arith, ints)
   where
     above : (t : ℕ) → nat_le (suc t) t ≡ false
@@ -80,7 +80,7 @@ value_is p ts =
     let g : ℤ = pos (gained (var_bound ts) ts) in
     let t : ℕ = true_sum p (joined (var_bound ts) ts) in
     from_below (value_at p ts) t (g -ℤ on_opposites ts)
-    (λ (a : ℤ). ap (λ (y : ℤ). nat_le (or_zero y) t) (regrouped a (on_opposites ts) g) ∙ holds-normal_form p ts a)
+    (λ (a : ℤ). ap (λ (y : ℤ). nat_le (positive_part y) t) (regrouped a (on_opposites ts) g) ∙ holds-normal_form p ts a)
   where
     regrouped : (a o g : ℤ) → a +ℤ (g -ℤ o) ≡ (a -ℤ o) +ℤ g
     regrouped a o g = omega (arith, ints)
@@ -102,7 +102,7 @@ canonical_same row none =
 
 -- ---- its sizes and its variables
 
-positive_size : (c : ℤ) (neg : Bool) (v : ℕ) → IsPositive c → unsigned_abs (without_opposite (record { coef = c; lit = record { var = v; neg = neg } })).coef ≡ weight c
+positive_size : (c : ℤ) (neg : Bool) (v : ℕ) → IsPositive c → unsigned_abs (without_opposite (record { coef = c; lit = record { var = v; neg = neg } })).coef ≡ positive_part c
 positive_size (pos zero) neg v h = absurd (omega arith)
 positive_size (pos (suc n)) true v h = refl
 positive_size (pos (suc n)) false v h = refl

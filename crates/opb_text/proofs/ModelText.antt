@@ -9,7 +9,7 @@ use Rattle.pb_rows.specs.Terms.{PlainRow, Written}
 use Rattle.pb_rows.specs.Normal.{on_opposites}
 use Rattle.pb_rows.specs.Rows.{in_normal_form}
 use Rattle.rank_tables.specs.Numbers.{below, numbers_to}
-use Rattle.rank_tables.specs.Instance.{Lists, capacity_of, pair_at, pair_count, pairs_of_hospital, pairs_of_resident}
+use Rattle.rank_tables.specs.Instance.{Lists, capacity_of, pair_at, pair_count, rising_pairs_of_hospital, pairs_of_resident}
 use Rattle.stability_model.specs.Model.{IsRow, hospital_has_pair, hospital_row, hospital_row_no, hospital_rows, objective, pair_row, resident_has_pair, resident_row, resident_row_no, resident_rows, rows, stability_coef, term, written_rows}
 use Rattle.opb_text.specs.Spelling.{canonical, header_line, model_text, objective_line, row_line, written_with}
 use Rattle.opb_text.specs.Sending.{hospital_line, hospital_lines, lines_to, pair_line, pair_lines, resident_line, resident_lines}
@@ -90,7 +90,7 @@ pub hospital_spelled : (lists : Lists) (h k : ℕ) (made : PlainRow) (z : ℤ) �
 unfolding minus
 hospital_spelled lists h k made z number at is value =
     let row : Written = hospital_row lists h in
-    spelled z made row (same_row made (in_normal_form row) _ at is) (no_opposites minus (pairs_of_hospital lists h)) value
+    spelled z made row (same_row made (in_normal_form row) _ at is) (no_opposites minus (rising_pairs_of_hospital lists h)) value
     ∙ sym (ap (λ b. if b then row_line (canonical row) else []) (if_any (hospital_has_pair lists h) _ k number))
 
 pub pair_spelled : (lists : Lists) (p k : ℕ) (made : PlainRow) (z : ℤ) → slice_get (rows lists) (k - 1) ≡ Some made → IsRow lists k (pair_row lists p) → z ≡ pos (capacity_of lists (pair_at lists p).hospital)

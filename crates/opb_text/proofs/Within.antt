@@ -12,7 +12,7 @@ use Rattle.pb_rows.specs.Normal.{sizes}
 use Rattle.pb_rows.specs.Rows.{in_normal_form}
 use Rattle.pb_rows.proofs.Covers.{normal_form_over}
 use Rattle.rank_tables.specs.Numbers.{below, numbers_to}
-use Rattle.rank_tables.specs.Instance.{Lists, pair_at, pair_count, pairs_of_hospital, pairs_of_resident}
+use Rattle.rank_tables.specs.Instance.{Lists, pair_at, pair_count, rising_pairs_of_hospital, pairs_of_resident}
 use Rattle.rank_tables.specs.WellFormed.{most_pairs}
 use Rattle.rank_tables.proofs.Below.{length-numbers_to}
 use Rattle.stability_model.specs.Model.{formula, has_any, hospital_has_pair, hospital_row, hospital_rows, objective, pair_row, resident_has_pair, resident_row, resident_rows, rows, stability_coef, term, written_rows}
@@ -46,7 +46,7 @@ written_over lists =
     All-append (IsOver n) (resident_rows lists ++ hospital_rows lists) (map (pair_row lists) (numbers_to n))
     (All-append (IsOver n) (resident_rows lists) (hospital_rows lists)
     (each_over n (resident_row lists) (filter (resident_has_pair lists) (below (length lists.residents))) (λ r. terms_over n minus (pairs_of_resident lists r) (some_covered n _)))
-    (each_over n (hospital_row lists) (filter (hospital_has_pair lists) (below (length lists.hospitals))) (λ h. terms_over n minus (pairs_of_hospital lists h) (some_covered n _))))
+    (each_over n (hospital_row lists) (filter (hospital_has_pair lists) (below (length lists.hospitals))) (λ h. terms_over n minus (rising_pairs_of_hospital lists h) (some_covered n _))))
     (each_over n (pair_row lists) (numbers_to n) (λ p. terms_over n (λ q. pos (stability_coef lists p q)) (filter _ (numbers_to n)) (some_covered n _)))
 
 rows_over : (lists : Lists) → All (λ (r : PlainRow). AreOver (pair_count lists) r.terms) (rows lists)

@@ -14,7 +14,7 @@ use Rattle.proof_rules.specs.Held.{Held, is_held, keeping, row_numbers}
 use Rattle.proof_rules.specs.States.{IsInOrder}
 use Rattle.proof_rules.proofs.Held.{is_held-keeping}
 use Rattle.proof_rules.proofs.Numbers.{live_within}
-use Rattle.derivation.specs.Deletions.{AreUnitRows, Deletions, deleted_count, unit_of, unit_row}
+use Rattle.derivation.specs.Deletions.{AreUnitRows, Deletions, deleted_count, unit_row_no, unit_row}
 use Rattle.derivation.specs.Derived.{Derived}
 use Rattle.derivation.specs.Ready.{IsReady}
 use Rattle.derivation.proofs.Readiness.{row_numbered}
@@ -58,18 +58,18 @@ module _ (lists : Lists) (start unit new : Derived) (pairs : ℕ) (after : Delet
   held_left : new.held ≡ keeping reduces.ids start.held
   held_left = forgets.held ∙ reduces.held
 
-  of_unit : (p : ℕ) (id : RowNo) → unit_of after p ≡ Some id → is_in id.0 reduces.ids ≡ true
+  of_unit : (p : ℕ) (id : RowNo) → unit_row_no after p ≡ Some id → is_in id.0 reduces.ids ≡ true
   of_unit p id e = elim (reduces.all p id e) [
     | inl f ↦ let wrong : ◌≡◌ {A = Option RowNo} None (Some id) = sym (none_at pairs p) ∙ f in absurd (cc)
     | inr i ↦ i
   ]
 
-  unit_stays : (p : ℕ) (o : Option RowNo) → unit_of after p ≡ o → IfSome o (λ id. row_of id.0 unit.state.live ≡ Some (unit_row p)) → IfSome o (λ id. row_of id.0 new.state.live ≡ Some (unit_row p))
+  unit_stays : (p : ℕ) (o : Option RowNo) → unit_row_no after p ≡ o → IfSome o (λ id. row_of id.0 unit.state.live ≡ Some (unit_row p)) → IfSome o (λ id. row_of id.0 new.state.live ≡ Some (unit_row p))
   unit_stays p None e h = tt
   unit_stays p (Some id) e h = forgets.others id.0 (unit_apart id.0 (of_unit p id e)) ∙ h
 
   pub ends_units : AreUnitRows new.state.live after
-  ends_units p = unit_stays p (unit_of after p) refl (reduces.can.units p)
+  ends_units p = unit_stays p (unit_row_no after p) refl (reduces.can.units p)
 
   held_lives : (n : ℕ) → is_held new.held n ≡ true → is_numbered n new.state.live ≡ true
   held_lives n h = elim (or_cases (is_held start.held n) (is_in n reduces.ids) (sym (is_held-keeping start.held reduces.ids n) ∙ ap (λ (x : Held). is_held x n) (sym held_left) ∙ h)) [

@@ -11,7 +11,7 @@ use Rattle.pb_rows.specs.Formula.{NumberedRow, is_numbered, row_of, without}
 use Rattle.row_text.specs.Tokens.{spaced}
 use Rattle.rank_tables.specs.Numbers.{is_distinct, is_in}
 use Rattle.proof_lines.specs.declared.line.Line.TheVariants.{Del}
-use Rattle.proof_lines.specs.Texts.{id_text, is_made_id, is_some_of, line_text}
+use Rattle.proof_lines.specs.Texts.{id_text, is_spellable_id, is_nonempty_and_all, line_text}
 use Rattle.proof_rules.specs.Refusals.{BadId, Refusal, and_then}
 use Rattle.proof_rules.specs.Held.{row_numbers}
 use Rattle.proof_rules.specs.States.{IsInOrder, State, deleted}
@@ -82,11 +82,11 @@ leaves (x ∷ ids) live d h =
 
 -- ---- the line
 
-ids_made : (ids : List RowNo) → ((n : ℕ) → is_in n (row_numbers ids) ≡ true → (1 ≤ n) × (n < 10 ^ 18)) → list_all is_made_id ids ≡ true
+ids_made : (ids : List RowNo) → ((n : ℕ) → is_in n (row_numbers ids) ≡ true → (1 ≤ n) × (n < 10 ^ 18)) → list_all is_spellable_id ids ≡ true
 ids_made [] h = refl
 ids_made (x ∷ ids) h =
     let here = h x.0 (or_left (x.0 == x.0) (is_in x.0 (row_numbers ids)) (eq-eqb x.0 x.0 refl)) in
-    and_from (is_made_id x) (list_all is_made_id ids) (and_from (nat_le 1 x.0) (nat_le x.0 (10 ^ 18 - 1)) (le-leb 1 x.0 here.0) (le-leb x.0 (10 ^ 18 - 1) (omega (arith, here.1))))
+    and_from (is_spellable_id x) (list_all is_spellable_id ids) (and_from (nat_le 1 x.0) (nat_le x.0 (10 ^ 18 - 1)) (le-leb 1 x.0 here.0) (le-leb x.0 (10 ^ 18 - 1) (omega (arith, here.1))))
     (ids_made ids (λ n i. h n (or_right (x.0 == n) (is_in n (row_numbers ids)) i)))
 
 ids_short : (ids : List RowNo) → ((n : ℕ) → is_in n (row_numbers ids) ≡ true → (1 ≤ n) × (n < 10 ^ 18)) → length (spaced (map id_text ids)) ≤ 19 * length ids
@@ -96,7 +96,7 @@ ids_short (x ∷ ids) h =
     let rest = ids_short ids (λ n i. h n (or_right (x.0 == n) (is_in n (row_numbers ids)) i)) in
     omega (arith, rest, length-append (decimal x.0) (spaced (map id_text ids)), length-decimal-le 18 x.0 (omega arith) here.1 (omega (arith, here.1)))
 
-some_made : (ids : List RowNo) → 0 < length ids → list_all is_made_id ids ≡ true → is_some_of is_made_id ids ≡ true
+some_made : (ids : List RowNo) → 0 < length ids → list_all is_spellable_id ids ≡ true → is_nonempty_and_all is_spellable_id ids ≡ true
 some_made [] l h = absurd (omega arith)
 some_made (x ∷ ids) l h = h
 

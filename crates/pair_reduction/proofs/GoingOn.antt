@@ -9,7 +9,7 @@ use Rattle.pb_rows.specs.Formula.{NumberedRow, is_numbered, row_of}
 use Rattle.rank_tables.specs.Numbers.{is_distinct, is_in}
 use Rattle.proof_rules.specs.Held.{row_numbers}
 use Rattle.proof_rules.proofs.Held.{is_in-append}
-use Rattle.derivation.specs.Deletions.{AreUnitRows, Deletions, unit_of, unit_row}
+use Rattle.derivation.specs.Deletions.{AreUnitRows, Deletions, unit_row_no, unit_row}
 use Rattle.derivation.specs.Derived.{Derived, StaysValid}
 use Rattle.derivation.specs.Steps.{with_new_row}
 use Rattle.derivation.proofs.Readiness.{row_front, row_numbered}
@@ -27,7 +27,7 @@ pub kept_further : (a b c : Derived) → KeepsLive a b → KeepsLive b c → Kee
 kept_further a b c g h n row e = h n row (g n row e)
 
 pub units_kept : (a b : Derived) (deletions : Deletions) → KeepsLive a b → AreUnitRows a.state.live deletions → AreUnitRows b.state.live deletions
-units_kept a b deletions kept units p = by (unit_of deletions p) (units p)
+units_kept a b deletions kept units p = by (unit_row_no deletions p) (units p)
   where
     by : (o : Option RowNo) → IfSome o (λ id. row_of id.0 a.state.live ≡ Some (unit_row p)) → IfSome o (λ id. row_of id.0 b.state.live ≡ Some (unit_row p))
     by None h = tt

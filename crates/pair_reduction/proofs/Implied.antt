@@ -9,7 +9,7 @@ use Rattle.pb_rows.specs.Rows.{in_normal_form}
 use Rattle.pb_rows.specs.Closure.{Implies}
 use Rattle.pb_rows.specs.Formula.{NumberedRow, row_of, rows_of}
 use Rattle.rank_tables.specs.Numbers.{below, numbers_to}
-use Rattle.rank_tables.specs.Instance.{Lists, pair_at, pair_count, pairs_of_hospital, pairs_of_resident, rank_by_resident}
+use Rattle.rank_tables.specs.Instance.{Lists, pair_at, pair_count, rising_pairs_of_hospital, pairs_of_resident, rank_by_resident}
 use Rattle.rank_tables.specs.Tables.{IsPairNo}
 use Rattle.rank_tables.proofs.Numbers.{element, is_in-filter}
 use Rattle.stability_model.specs.Model.{hospital_has_pair, hospital_row, hospital_row_no, pair_row, pair_row_no, resident_has_pair, resident_row, resident_row_no, resident_rows}
@@ -18,7 +18,7 @@ use Rattle.stability_model.proofs.Growing.{is_pair_row}
 use Rattle.rank_tables.proofs.PairNumbers.{is_pair, pair_listed, pair_of_resident}
 use Rattle.stability_model.proofs.Places.{names_hospital_row, names_resident_row}
 use Rattle.proof_rules.specs.States.{live_rows}
-use Rattle.derivation.specs.Deletions.{AreUnitRows, Deletions, is_deleted, unit_of, unit_row}
+use Rattle.derivation.specs.Deletions.{AreUnitRows, Deletions, is_deleted, unit_row_no, unit_row}
 use Rattle.derivation.specs.Derived.{Derived}
 use Rattle.derivation.specs.Ready.{IsReady}
 use Rattle.pair_reduction.specs.Reduced.{HasOffers}
@@ -44,7 +44,7 @@ hospital_contained lists d p same ready p_is declared =
     let k : ℕ = length (resident_rows lists) + count_by (hospital_has_pair lists) (below (pair_at lists p).hospital) + 1 in
     let number : hospital_row_no lists (pair_at lists p).hospital ≡ Some k =
     ap (λ (b : Bool). if b then Some (length (resident_rows lists) + count_by (hospital_has_pair lists) (below (pair_at lists p).hospital) + 1) else None)
-    (has_one p (pairs_of_hospital lists (pair_at lists p).hospital)
+    (has_one p (rising_pairs_of_hospital lists (pair_at lists p).hospital)
     (is_in-filter (λ q. (pair_at lists q).hospital == (pair_at lists p).hospital) p (numbers_to (pair_count lists)) ∙ and_from (is_pair lists p) ((pair_at lists p).hospital == (pair_at lists p).hospital) (pair_listed lists p p_is) (eq-eqb (pair_at lists p).hospital (pair_at lists p).hospital refl))) in
     row_contained k (in_normal_form (hospital_row lists (pair_at lists p).hospital)) d.state.live
     (model_row lists d k (hospital_row lists (pair_at lists p).hospital) same ready (omega arith) (names_hospital_row lists (pair_at lists p).hospital (Some k) declared (sym number)))
@@ -68,7 +68,7 @@ implied_by_a lists d deletions w same ready units w_is declared rule =
     let at = pair_of_resident lists (pair_at lists w).resident p found.1 in
     rule_a_follows lists (is_deleted deletions) p w (live_rows d.state) at.0 w_is at.1 two.0 (ltb-true (rank_by_resident lists p) (rank_by_resident lists w) two.1) (resident_contained lists d w same ready w_is declared)
     (row_contained (pair_row_no lists p) (in_normal_form (pair_row lists p)) d.state.live (model_row lists d (pair_row_no lists p) (pair_row lists p) same ready (omega (arith, at.0.0)) (is_pair_row lists p at.0)))
-    (λ g g_is k. unit_at d.state.live deletions g (unit_of deletions g) (units g) k)
+    (λ g g_is k. unit_at d.state.live deletions g (unit_row_no deletions g) (units g) k)
 
 pub implied_by_b : (lists : Lists) (d : Derived) (p : ℕ) → lists ≡ d.lists → IsReady d → IsPairNo lists p → (pair_at lists p).hospital < length lists.hospitals → HasOffers lists p d.state.live → Implies (live_rows d.state) (unit_row p)
 implied_by_b lists d p same ready p_is declared offers =

@@ -9,7 +9,7 @@ use Rattle.pb_rows.specs.Terms.{PlainRow, Written}
 use Rattle.pb_rows.specs.Rows.{in_normal_form}
 use Rattle.pb_rows.specs.Formula.{row_of}
 use Rattle.rank_tables.specs.Numbers.{below, is_in, numbers_to}
-use Rattle.rank_tables.specs.Instance.{Lists, capacity_of, pair_at, pair_count, pairs_of_hospital, pairs_of_resident}
+use Rattle.rank_tables.specs.Instance.{Lists, capacity_of, pair_at, pair_count, rising_pairs_of_hospital, pairs_of_resident}
 use Rattle.hrt_base.specs.declared.numbered.PairNo.{PairNo}
 use Rattle.rank_tables.specs.Tables.{IsPairNo, numbers_of}
 use Rattle.rank_tables.specs.WellFormed.{IsWellFormed}
@@ -81,7 +81,7 @@ limits_of inst lists q pairs h posts same formed count few hospital declared cap
     let posts_are : posts ≡ capacity_of inst (pair_at inst q).hospital = capacity ∙ ap (capacity_of inst) hospital in
     subst (λ (l : Lists). Limits l q) same (record { formed = formed; most = omega arith; most_posts = omega arith; declared = omega arith })
 
-module _ (lists : Lists) (formed : IsWellFormed lists) (q : ℕ) (q_is : IsPairNo lists q) (d : Derived) (same : lists ≡ d.lists) (ready : IsReady d) (order : IsInOrder d.state) (next : d.state.next < 10 ^ 18) (deletions : Deletions) (units : AreUnitRows d.state.live deletions) (only : has_only lists (is_deleted deletions) q ≡ true) (posts : 0 < capacity_of lists (pair_at lists q).hospital) (few : capacity_of lists (pair_at lists q).hospital ≤ length (pairs_of_hospital lists (pair_at lists q).hospital)) (most : pair_count lists ≤ 100000) (most_posts : capacity_of lists (pair_at lists q).hospital ≤ 20000) (declared : (pair_at lists q).hospital < length lists.hospitals) (pair_is : IsRow lists (pair_row_no lists q) (pair_row lists q)) (steps : List PolStep) (are : steps ≡ offer_steps lists deletions q) where
+module _ (lists : Lists) (formed : IsWellFormed lists) (q : ℕ) (q_is : IsPairNo lists q) (d : Derived) (same : lists ≡ d.lists) (ready : IsReady d) (order : IsInOrder d.state) (next : d.state.next < 10 ^ 18) (deletions : Deletions) (units : AreUnitRows d.state.live deletions) (only : has_only lists (is_deleted deletions) q ≡ true) (posts : 0 < capacity_of lists (pair_at lists q).hospital) (few : capacity_of lists (pair_at lists q).hospital ≤ length (rising_pairs_of_hospital lists (pair_at lists q).hospital)) (most : pair_count lists ≤ 100000) (most_posts : capacity_of lists (pair_at lists q).hospital ≤ 20000) (declared : (pair_at lists q).hospital < length lists.hospitals) (pair_is : IsRow lists (pair_row_no lists q) (pair_row lists q)) (steps : List PolStep) (are : steps ≡ offer_steps lists deletions q) where
   hospital_no : ℕ
   hospital_no = length (resident_rows lists) + count_by (hospital_has_pair lists) (below (pair_at lists q).hospital) + 1
 
@@ -89,7 +89,7 @@ module _ (lists : Lists) (formed : IsWellFormed lists) (q : ℕ) (q_is : IsPairN
   unfolding hospital_no
   numbered =
       ap (λ (b : Bool). if b then Some (length (resident_rows lists) + count_by (hospital_has_pair lists) (below (pair_at lists q).hospital) + 1) else None)
-      (has_one q (pairs_of_hospital lists (pair_at lists q).hospital)
+      (has_one q (rising_pairs_of_hospital lists (pair_at lists q).hospital)
       (is_in-filter (λ p. (pair_at lists p).hospital == (pair_at lists q).hospital) q (numbers_to (pair_count lists)) ∙ and_from (is_pair lists q) ((pair_at lists q).hospital == (pair_at lists q).hospital) (pair_listed lists q q_is) (eq-eqb (pair_at lists q).hospital (pair_at lists q).hospital refl)))
 
   hospital_live : row_of hospital_no d.state.live ≡ Some (in_normal_form (hospital_row lists (pair_at lists q).hospital))
@@ -137,7 +137,7 @@ pub record MakesOffer (lists : Lists) (q : ℕ) (d : Derived) (deletions : Delet
   pub done : (new : Derived) → Takes (Pol steps) d new → new ≡ with_new_row (offer_row lists q) (line_text (Pol (offer_steps lists deletions q))) d
 
 pub makes_offer : (lists : Lists) (q : ℕ) (d : Derived) (deletions : Deletions) (steps : List PolStep) (k : ℕ) → Limits lists q → IsPairNo lists q → lists ≡ d.lists → IsReady d → IsInOrder d.state → d.state.next < 10 ^ 18 → AreUnitRows d.state.live deletions →
-    has_only lists (is_deleted deletions) q ≡ true → 0 < capacity_of lists (pair_at lists q).hospital → capacity_of lists (pair_at lists q).hospital ≤ length (pairs_of_hospital lists (pair_at lists q).hospital) →
+    has_only lists (is_deleted deletions) q ≡ true → 0 < capacity_of lists (pair_at lists q).hospital → capacity_of lists (pair_at lists q).hospital ≤ length (rising_pairs_of_hospital lists (pair_at lists q).hospital) →
     k ≡ pair_row_no lists q → IsRow lists k (pair_row lists q) → steps ≡ offer_steps lists deletions q → MakesOffer lists q d deletions steps
 makes_offer lists q d deletions steps k limits q_is same ready order next units only posts few number row are =
     let pair_is : IsRow lists (pair_row_no lists q) (pair_row lists q) = subst (λ (j : ℕ). IsRow lists j (pair_row lists q)) number row in

@@ -14,7 +14,7 @@ use Rattle.pb_rows.specs.Rows.{add, in_normal_form}
 use Rattle.pb_rows.specs.Formula.{NumberedRow, row_of}
 use Rattle.pb_rows.proofs.Coefs.{add-coefs, coef_row, coefs-nets, minus_sum, sum_below-same}
 use Rattle.rank_tables.specs.Numbers.{is_in, numbers_to}
-use Rattle.rank_tables.specs.Instance.{Lists, capacity_of, pair_at, pair_count, pairs_of_hospital, pairs_of_resident, rank_by_hospital, rank_by_resident}
+use Rattle.rank_tables.specs.Instance.{Lists, capacity_of, pair_at, pair_count, rising_pairs_of_hospital, pairs_of_resident, rank_by_hospital, rank_by_resident}
 use Rattle.rank_tables.specs.Tables.{IsPairNo}
 use Rattle.rank_tables.specs.WellFormed.{IsWellFormed}
 use Rattle.rank_tables.proofs.Numbers.{distinct-filter, distinct-numbers_to, is_in-filter, all_at}
@@ -29,7 +29,7 @@ use Rattle.proof_lines.specs.declared.line.PolStep.TheVariants.{Id, Add}
 use Rattle.proof_lines.specs.Spelling.{is_small_step, row_no}
 use Rattle.proof_rules.specs.Refusals.{Refusal, TooBig, and_then}
 use Rattle.proof_rules.specs.Pol.{fits, only_row, pol_row, run_steps}
-use Rattle.derivation.specs.Deletions.{AreUnitRows, Deletions, is_deleted, unit_of, unit_row}
+use Rattle.derivation.specs.Deletions.{AreUnitRows, Deletions, is_deleted, unit_row_no, unit_row}
 use Rattle.pair_reduction.specs.Offers.{offer_steps, row_steps, before_steps, is_before, is_lower, offer_row}
 use Rattle.pair_reduction.proofs.AtMost.{counted_below}
 use Rattle.pair_reduction.proofs.OfferRun.{AreSmall, Clears, all_run, cleared, cleared-is, id_run, pushed, small_fits, small_minus}
@@ -75,7 +75,7 @@ module _ (lists : Lists) (formed : IsWellFormed lists) (q : ℕ) (q_is : IsPairN
   left_coefs = cleared (is_before lists q) (pairs_of_resident lists (pair_at lists q).resident) (pair_coefs lists q)
 
   abbrev pub post_coefs : ℕ → ℤ
-  post_coefs = coefs_over minus_one (pairs_of_hospital lists (pair_at lists q).hospital)
+  post_coefs = coefs_over minus_one (rising_pairs_of_hospital lists (pair_at lists q).hospital)
 
   apart : (v : ℕ) → is_pair lists v ≡ true → ((pair_at lists v).resident == (pair_at lists q).resident) ≡ true → ((pair_at lists v).hospital == (pair_at lists q).hospital) ≡ true → (v == q) ≡ true
   apart v i e f =
@@ -116,8 +116,8 @@ module _ (lists : Lists) (formed : IsWellFormed lists) (q : ℕ) (q_is : IsPairN
       ∙ zero_or (is_in v (pairs_of_resident lists (pair_at lists q).resident) && is_before lists q v) (pair_coefs lists q v) (pair_positive v)
 
   -- the posts are no more than the hospital's pairs, and within the limits
-  module _ (most : pair_count lists ≤ 100000) (most_posts : capacity_of lists (pair_at lists q).hospital ≤ 20000) (few : capacity_of lists (pair_at lists q).hospital ≤ length (pairs_of_hospital lists (pair_at lists q).hospital)) where
-    posts_minus : minus_sum (suc (pair_count lists)) post_coefs ≡ length (pairs_of_hospital lists (pair_at lists q).hospital)
+  module _ (most : pair_count lists ≤ 100000) (most_posts : capacity_of lists (pair_at lists q).hospital ≤ 20000) (few : capacity_of lists (pair_at lists q).hospital ≤ length (rising_pairs_of_hospital lists (pair_at lists q).hospital)) where
+    posts_minus : minus_sum (suc (pair_count lists)) post_coefs ≡ length (rising_pairs_of_hospital lists (pair_at lists q).hospital)
     posts_minus =
         sum_below-same (suc (pair_count lists)) (λ v. negative_part (post_coefs v)) (λ v. if is_in v (numbers_to (pair_count lists)) && ((pair_at lists v).hospital == (pair_at lists q).hospital) then 1 else 0)
         (λ v l. ap (λ (b : Bool). negative_part (if b then negsuc 0 else pos 0)) (is_in-filter (λ p. (pair_at lists p).hospital == (pair_at lists q).hospital) v (numbers_to (pair_count lists)))
@@ -150,11 +150,11 @@ module _ (lists : Lists) (formed : IsWellFormed lists) (q : ℕ) (q_is : IsPairN
         (omega (arith, most, small_minus (suc (pair_count lists)) (offer_coefs lists q) offer_small)) offer_small
 
     module _ (live : List NumberedRow) (deletions : Deletions) (units : AreUnitRows live deletions) (only : has_only lists (is_deleted deletions) q ≡ true) (pair_live : row_of (pair_row_no lists q) live ≡ Some (in_normal_form (pair_row lists q))) (k : ℕ) (hospital_live : row_of k live ≡ Some (in_normal_form (hospital_row lists (pair_at lists q).hospital))) where
-      some_unit : (p : ℕ) (o : Option RowNo) → unit_of deletions p ≡ o → is_some o ≡ true → (id : RowNo) × (unit_of deletions p ≡ Some id)
+      some_unit : (p : ℕ) (o : Option RowNo) → unit_row_no deletions p ≡ o → is_some o ≡ true → (id : RowNo) × (unit_row_no deletions p ≡ Some id)
       some_unit p None e h = absurd (cc)
       some_unit p (Some id) e h = (id, e)
 
-      unit_found : (p : ℕ) (id : RowNo) → unit_of deletions p ≡ Some id → row_of id.0 live ≡ Some (unit_row p)
+      unit_found : (p : ℕ) (id : RowNo) → unit_row_no deletions p ≡ Some id → row_of id.0 live ≡ Some (unit_row p)
       unit_found p id e = let P : Option RowNo → Type 0 = λ o. IfSome o (λ i. row_of i.0 live ≡ Some (unit_row p)) in subst P e (units p)
 
       gone_by : (s g l : Bool) → (s || g || l) ≡ true → s ≡ false → l ≡ false → g ≡ true
@@ -176,7 +176,7 @@ module _ (lists : Lists) (formed : IsWellFormed lists) (q : ℕ) (q_is : IsPairN
           let le : rank_by_resident lists p ≤ rank_by_resident lists q = leb-true (rank_by_resident lists p) (rank_by_resident lists q) two.1 in
           let gone : is_deleted deletions p ≡ true = gone_by (p == q) (is_deleted deletions p) (nat_lt (rank_by_resident lists q) (rank_by_resident lists p))
           (all_at (λ o. o == q || is_deleted deletions o || nat_lt (rank_by_resident lists q) (rank_by_resident lists o)) (pairs_of_resident lists (pair_at lists q).resident) p only i) other (le-ltb (rank_by_resident lists q) (rank_by_resident lists p) le) in
-          let found = some_unit p (unit_of deletions p) refl gone in
+          let found = some_unit p (unit_row_no deletions p) refl gone in
           record {
             id = found.0;
             unit = found.1;

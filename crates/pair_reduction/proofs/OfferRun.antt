@@ -17,7 +17,7 @@ use Rattle.proof_lines.specs.declared.line.PolStep.TheVariants.{Id, Times, Add}
 use Rattle.proof_rules.specs.Refusals.{Refusal, TooBig, and_then}
 use Rattle.proof_rules.specs.Pol.{fits, run_steps}
 use Rattle.proof_rules.proofs.Fits.{fits_true}
-use Rattle.derivation.specs.Deletions.{Deletions, unit_of, unit_row}
+use Rattle.derivation.specs.Deletions.{Deletions, unit_row_no, unit_row}
 use Rattle.pair_reduction.specs.Offers.{unit_steps}
 
 -- ---- one unit row
@@ -127,19 +127,19 @@ module _ (vars : ℕ) (live : List NumberedRow) where
   -- ---- one pair after another
 
   abbrev pub steps_if : (ℕ → Bool) → ℕ → Deletions → ℕ → List PolStep
-  steps_if counted c deletions p = if counted p then unit_steps c (unit_of deletions p) else []
+  steps_if counted c deletions p = if counted p then unit_steps c (unit_row_no deletions p) else []
 
   -- a pair that counts is deleted, its unit row is live, and its coefficient is c
   pub record Clears (n c : ℕ) (deletions : Deletions) (s : ℕ → ℤ) (p : ℕ) : Type 0 where
     pub id : RowNo
-    pub unit : unit_of deletions p ≡ Some id
+    pub unit : unit_row_no deletions p ≡ Some id
     pub row : row_of id.0 live ≡ Some (unit_row p)
     pub within : p < n
     pub coef : s p ≡ pos c
 
   module _ (n c : ℕ) (small : n ≤ 100001) (most : c ≤ 20000) (deletions : Deletions) (counted : ℕ → Bool) where
     one_run : (p : ℕ) (b : Bool) (s : ℕ → ℤ) (steps : List PolStep) → (b ≡ true → Clears n c deletions s p) → AreSmall s → ((v : ℕ) → negative_part (s v) ≡ 0) →
-        run_steps vars live ((if b then unit_steps c (unit_of deletions p) else []) ++ steps) (coef_row n s c ∷ []) ≡ run_steps vars live steps (coef_row n (if b then cleared_at p s else s) c ∷ [])
+        run_steps vars live ((if b then unit_steps c (unit_row_no deletions p) else []) ++ steps) (coef_row n s c ∷ []) ≡ run_steps vars live steps (coef_row n (if b then cleared_at p s else s) c ∷ [])
     one_run p false s steps h are none = refl
     one_run p true s steps h are none =
         let k = h refl in

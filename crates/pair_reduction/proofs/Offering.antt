@@ -8,7 +8,7 @@ use Rattle.hrt_base.specs.declared.numbered.RowNo.{RowNo}
 use Rattle.hrt_base.specs.declared.numbered.PairNo.{PairNo}
 use Rattle.pb_rows.specs.Formula.{NumberedRow, row_of}
 use Rattle.rank_tables.specs.Numbers.{is_distinct, is_in, numbers_to}
-use Rattle.rank_tables.specs.Instance.{Lists, capacity_of, pair_at, pair_count, pairs_of_hospital, rank_by_hospital}
+use Rattle.rank_tables.specs.Instance.{Lists, capacity_of, pair_at, pair_count, rising_pairs_of_hospital, rank_by_hospital}
 use Rattle.rank_tables.specs.Tables.{IsPairNo, numbers_of}
 use Rattle.rank_tables.proofs.Numbers.{all_from, distinct-filter, distinct-numbers_to}
 use Rattle.rank_tables.proofs.PairNumbers.{pair_of_hospital}
@@ -166,11 +166,11 @@ marked_has_only inst lists known p q same kept q_is yields =
     let two = and_parts (nat_lt (rank_by_hospital inst q) (rank_by_hospital inst p)) (is_marked known.only.items q) yields in
     free_only lists (is_deleted known.gone) q ∙ kept.sound Resident q (subst (λ (l : Lists). IsPairNo l q) same q_is) two.1
 
-pub few_posts : (inst lists : Lists) (marked : Pairs) (p q h : ℕ) → inst ≡ lists → h ≡ (pair_at inst p).hospital → (pair_at inst q).hospital ≡ h → is_passed Hospital lists marked p ≡ true → capacity_of lists (pair_at lists q).hospital ≤ length (pairs_of_hospital lists (pair_at lists q).hospital)
+pub few_posts : (inst lists : Lists) (marked : Pairs) (p q h : ℕ) → inst ≡ lists → h ≡ (pair_at inst p).hospital → (pair_at inst q).hospital ≡ h → is_passed Hospital lists marked p ≡ true → capacity_of lists (pair_at lists q).hospital ≤ length (rising_pairs_of_hospital lists (pair_at lists q).hospital)
 few_posts inst lists marked p q h same here there passed =
-    subst (λ (k : ℕ). capacity_of lists k ≤ length (pairs_of_hospital lists k)) (sym (subst (λ (l : Lists). (pair_at l q).hospital ≡ (pair_at l p).hospital) same (there ∙ here)))
+    subst (λ (k : ℕ). capacity_of lists k ≤ length (rising_pairs_of_hospital lists k)) (sym (subst (λ (l : Lists). (pair_at l q).hospital ≡ (pair_at l p).hospital) same (there ∙ here)))
     (let enough = leb-true (capacity_of lists (pair_at lists p).hospital) _ passed in
-    let most = count_by-le-length (λ x. nat_lt (rank_by_hospital lists x) (rank_by_hospital lists p) && marked x) (pairs_of_hospital lists (pair_at lists p).hospital) in
+    let most = count_by-le-length (λ x. nat_lt (rank_by_hospital lists x) (rank_by_hospital lists p) && marked x) (rising_pairs_of_hospital lists (pair_at lists p).hospital) in
     omega arith)
 
 -- ---- the end of the loop
@@ -196,13 +196,13 @@ numbers_front (suc i) [] = refl
 numbers_front (suc i) (p ∷ ps) = ap (λ (ns : List ℕ). p.0 ∷ ns) (numbers_front i ps)
 
 pub ends_with_offers : (inst lists : Lists) (start now : Derived) (deletions : Deletions) (only : List Bool) (p h posts found i : ℕ) (ps : List PairNo) (had has : Offers) → inst ≡ lists → h ≡ (pair_at inst p).hospital → posts ≡ capacity_of inst h → is_distinct (numbers_of ps) ≡ true →
-    ((q : ℕ) → is_in q (numbers_of ps) ≡ is_in q (pairs_of_hospital inst h)) → Offering lists start now deletions only p found (numbers_of (take i ps)) had has → posts ≤ found → HasOffers lists p now.state.live
+    ((q : ℕ) → is_in q (numbers_of ps) ≡ is_in q (rising_pairs_of_hospital inst h)) → Offering lists start now deletions only p found (numbers_of (take i ps)) had has → posts ≤ found → HasOffers lists p now.state.live
 ends_with_offers inst lists start now deletions only p h posts found i ps had has same hospital capacity distinct alike o enough =
-    let ns : List ℕ = pairs_of_hospital lists (pair_at lists p).hospital in
+    let ns : List ℕ = rising_pairs_of_hospital lists (pair_at lists p).hospital in
     let qs : List ℕ = numbers_of (take i ps) in
     let posts_are : posts ≡ capacity_of lists (pair_at lists p).hospital = capacity ∙ ap (capacity_of inst) hospital ∙ ap (λ (l : Lists). capacity_of l (pair_at l p).hospital) same in
     let within : (q : ℕ) → is_in q qs ≡ true → is_in q ns ≡ true = λ q k.
-    ap (is_in q) (ap (pairs_of_hospital lists) (ap (λ (l : Lists). (pair_at l p).hospital) (sym same) ∙ sym hospital) ∙ ap (λ (l : Lists). pairs_of_hospital l h) (sym same))
+    ap (is_in q) (ap (rising_pairs_of_hospital lists) (ap (λ (l : Lists). (pair_at l p).hospital) (sym same) ∙ sym hospital) ∙ ap (λ (l : Lists). rising_pairs_of_hospital l h) (sym same))
     ∙ sym (alike q) ∙ in_front_of i q (numbers_of ps) (ap (is_in q) (sym (numbers_front i ps)) ∙ k) in
     let counted : count_by (is_offering lists only p) qs ≡ count_by (λ x. is_in x qs && is_offering lists only p x) ns =
     count_in_list (is_offering lists only p) ns qs (distinct-filter (λ q. (pair_at lists q).hospital == (pair_at lists p).hospital) (numbers_to (pair_count lists)) (distinct-numbers_to (pair_count lists)))
@@ -216,13 +216,13 @@ ends_with_offers inst lists start now deletions only p h posts found i ps had ha
     record { offered = is_marked has.offered.items; enough = omega (arith, o.counts, counted, le, enough, posts_are); rows = o.reduces.offers.rows }
 
 pub all_are_enough : (inst lists : Lists) (start now : Derived) (deletions : Deletions) (only : List Bool) (p h posts found i : ℕ) (ps : List PairNo) (had has : Offers) → inst ≡ lists → h ≡ (pair_at inst p).hospital → posts ≡ capacity_of inst h → is_distinct (numbers_of ps) ≡ true →
-    ((q : ℕ) → is_in q (numbers_of ps) ≡ is_in q (pairs_of_hospital inst h)) → length ps ≤ i → is_passed Hospital lists (is_marked only) p ≡ true → Offering lists start now deletions only p found (numbers_of (take i ps)) had has → posts ≤ found
+    ((q : ℕ) → is_in q (numbers_of ps) ≡ is_in q (rising_pairs_of_hospital inst h)) → length ps ≤ i → is_passed Hospital lists (is_marked only) p ≡ true → Offering lists start now deletions only p found (numbers_of (take i ps)) had has → posts ≤ found
 all_are_enough inst lists start now deletions only p h posts found i ps had has same hospital capacity distinct alike all rule o =
     let posts_are : posts ≡ capacity_of lists (pair_at lists p).hospital = capacity ∙ ap (capacity_of inst) hospital ∙ ap (λ (l : Lists). capacity_of l (pair_at l p).hospital) same in
     let where_it_is : h ≡ (pair_at lists p).hospital = hospital ∙ ap (λ (l : Lists). (pair_at l p).hospital) same in
-    let counted : count_by (is_offering lists only p) (numbers_of (take i ps)) ≡ count_by (is_offering lists only p) (pairs_of_hospital lists (pair_at lists p).hospital) =
-    listed_count lists h (pair_at lists p).hospital (is_offering lists only p) ps i where_it_is all distinct (λ q. alike q ∙ ap (λ (l : Lists). is_in q (pairs_of_hospital l h)) same) in
-    let enough : capacity_of lists (pair_at lists p).hospital ≤ count_by (is_offering lists only p) (pairs_of_hospital lists (pair_at lists p).hospital) = leb-true (capacity_of lists (pair_at lists p).hospital) _ rule in
+    let counted : count_by (is_offering lists only p) (numbers_of (take i ps)) ≡ count_by (is_offering lists only p) (rising_pairs_of_hospital lists (pair_at lists p).hospital) =
+    listed_count lists h (pair_at lists p).hospital (is_offering lists only p) ps i where_it_is all distinct (λ q. alike q ∙ ap (λ (l : Lists). is_in q (rising_pairs_of_hospital l h)) same) in
+    let enough : capacity_of lists (pair_at lists p).hospital ≤ count_by (is_offering lists only p) (rising_pairs_of_hospital lists (pair_at lists p).hospital) = leb-true (capacity_of lists (pair_at lists p).hospital) _ rule in
     omega (arith, o.counts, counted, enough, posts_are)
 
 -- ---- the start

@@ -20,7 +20,7 @@ use Rattle.proof_lines.specs.Texts.{line_text}
 use Rattle.proof_rules.specs.Held.{keeping, row_numbers}
 use Rattle.proof_rules.specs.States.{IsInOrder}
 use Rattle.proof_rules.proofs.Held.{is_in-append}
-use Rattle.derivation.specs.Deletions.{AreUnitRows, Deletions, deleted_count, is_deleted, unit_of, unit_row}
+use Rattle.derivation.specs.Deletions.{AreUnitRows, Deletions, deleted_count, is_deleted, unit_row_no, unit_row}
 use Rattle.derivation.specs.Derived.{Derived, StaysValid}
 use Rattle.derivation.specs.Ready.{IsReady}
 use Rattle.derivation.specs.Steps.{with_new_row}
@@ -40,25 +40,25 @@ module _ (before : Deletions) (p : ℕ) (id : RowNo) (first : 1 ≤ p) (last : p
   same_place : (k : ℕ) → k < length before → get_or (set before k (Some id)) k None ≡ Some id
   same_place k within = rw get_or-set_same
 
-  pub marked_here : unit_of (slice_set before (p - 1) (Some id)) p ≡ Some id
+  pub marked_here : unit_row_no (slice_set before (p - 1) (Some id)) p ≡ Some id
   marked_here = by p refl
     where
-      by : (k : ℕ) → p ≡ k → unit_of (slice_set before (p - 1) (Some id)) k ≡ Some id
+      by : (k : ℕ) → p ≡ k → unit_row_no (slice_set before (p - 1) (Some id)) k ≡ Some id
       by zero e = absurd (omega arith)
       by (suc k) e =
           let same : p - 1 ≡ k = omega arith in
           let within : k < length before = omega arith in
           ap (λ (j : ℕ). get_or (set before j (Some id)) k None) same ∙ same_place k within
 
-  pub marked_other : (q : ℕ) → (q ≡ p → ⊥) → unit_of (slice_set before (p - 1) (Some id)) q ≡ unit_of before q
+  pub marked_other : (q : ℕ) → (q ≡ p → ⊥) → unit_row_no (slice_set before (p - 1) (Some id)) q ≡ unit_row_no before q
   marked_other zero other = refl
   marked_other (suc k) other = let ne : k ≢ p - 1 = λ e. other (omega arith) in rw get_or-set_other
 
-  module _ (absent : unit_of before p ≡ None) where
+  module _ (absent : unit_row_no before p ≡ None) where
     free : get_or before (p - 1) None ≡ None
     free = by p refl absent
       where
-        by : (k : ℕ) → p ≡ k → unit_of before k ≡ None → get_or before (p - 1) None ≡ None
+        by : (k : ℕ) → p ≡ k → unit_row_no before k ≡ None → get_or before (p - 1) None ≡ None
         by zero e h = absurd (omega arith)
         by (suc k) e h = let same : p - 1 ≡ k = omega arith in ap (λ (j : ℕ). get_or before j None) same ∙ h
 
@@ -73,9 +73,9 @@ module _ (before : Deletions) (p : ℕ) (id : RowNo) (first : 1 ≤ p) (last : p
 
 -- ---- one pair more
 
-grown_unit : (before : Deletions) (p q : ℕ) (id : RowNo) (other : RowNo) → 1 ≤ p → p ≤ length before → unit_of before p ≡ None → unit_of before q ≡ Some other → unit_of (slice_set before (p - 1) (Some id)) q ≡ Some other
+grown_unit : (before : Deletions) (p q : ℕ) (id : RowNo) (other : RowNo) → 1 ≤ p → p ≤ length before → unit_row_no before p ≡ None → unit_row_no before q ≡ Some other → unit_row_no (slice_set before (p - 1) (Some id)) q ≡ Some other
 grown_unit before p q id other first last absent e =
-    marked_other before p id first last q (λ f. let wrong : ◌≡◌ {A = Option RowNo} None (Some other) = sym absent ∙ ap (unit_of before) (sym f) ∙ e in absurd (cc)) ∙ e
+    marked_other before p id first last q (λ f. let wrong : ◌≡◌ {A = Option RowNo} None (Some other) = sym absent ∙ ap (unit_row_no before) (sym f) ∙ e in absurd (cc)) ∙ e
 
 was_deleted : (before : Deletions) (p q : ℕ) (id : RowNo) → 1 ≤ p → p ≤ length before → is_deleted (slice_set before (p - 1) (Some id)) q ≡ true → (q ≡ p → ⊥) → is_deleted before q ≡ true
 was_deleted before p q id first last e other = ap is_some (sym (marked_other before p id first last q other)) ∙ e
@@ -92,13 +92,13 @@ here_is n k e = or_left (n == k) false (eq-eqb n k e)
 some_number : (n : ℕ) (id : RowNo) → ◌≡◌ {A = Option RowNo} (Some (row_no n)) (Some id) → n ≡ id.0
 some_number n id e = cc
 
-units_with : (live : List NumberedRow) (before : Deletions) (p q : ℕ) (id : RowNo) → 1 ≤ p → p ≤ length before → AreUnitRows live before → row_of id.0 live ≡ Some (unit_row p) → IfSome (unit_of (slice_set before (p - 1) (Some id)) q) (λ k. row_of k.0 live ≡ Some (unit_row q))
+units_with : (live : List NumberedRow) (before : Deletions) (p q : ℕ) (id : RowNo) → 1 ≤ p → p ≤ length before → AreUnitRows live before → row_of id.0 live ≡ Some (unit_row p) → IfSome (unit_row_no (slice_set before (p - 1) (Some id)) q) (λ k. row_of k.0 live ≡ Some (unit_row q))
 units_with live before p q id first last units row = elim (cases_eq q p) [
-  | inl e ↦ subst (λ (o : Option RowNo). IfSome o (λ k. row_of k.0 live ≡ Some (unit_row q))) (sym (ap (unit_of (slice_set before (p - 1) (Some id))) e ∙ marked_here before p id first last)) (row ∙ ap (λ (k : ℕ). Some (unit_row k)) (sym e))
+  | inl e ↦ subst (λ (o : Option RowNo). IfSome o (λ k. row_of k.0 live ≡ Some (unit_row q))) (sym (ap (unit_row_no (slice_set before (p - 1) (Some id))) e ∙ marked_here before p id first last)) (row ∙ ap (λ (k : ℕ). Some (unit_row k)) (sym e))
   | inr other ↦ subst (λ (o : Option RowNo). IfSome o (λ k. row_of k.0 live ≡ Some (unit_row q))) (sym (marked_other before p id first last q other)) (units q)
 ]
 
-pub reduces_one : (lists : Lists) (old new : Derived) (before after : Deletions) (p : ℕ) → CanReduce lists old before → IsPairNo lists p → unit_of before p ≡ None → (rule_a lists (is_deleted before) p || rule_b lists (is_deleted before) p) ≡ true →
+pub reduces_one : (lists : Lists) (old new : Derived) (before after : Deletions) (p : ℕ) → CanReduce lists old before → IsPairNo lists p → unit_row_no before p ≡ None → (rule_a lists (is_deleted before) p || rule_b lists (is_deleted before) p) ≡ true →
     Deletes old new before after p → new.state.next ≤ old.state.next + 1 → Reduces lists old new before after []
 reduces_one lists old new before after p can p_is absent rule d few =
     let first : 1 ≤ p = p_is.0 in
@@ -106,7 +106,7 @@ reduces_one lists old new before after p can p_is absent rule d few =
     let id : RowNo = row_no d.id in
     let marked : after ≡ slice_set before (p - 1) (Some id) = d.marked in
     let count : deleted_count after ≡ deleted_count before + 1 = ap deleted_count marked ∙ marked_count before p id first last absent in
-    let here : unit_of after p ≡ Some id = ap (λ (m : Deletions). unit_of m p) marked ∙ marked_here before p id first last in
+    let here : unit_row_no after p ≡ Some id = ap (λ (m : Deletions). unit_row_no m p) marked ∙ marked_here before p id first last in
     record {
       can = record {
         same = can.same ∙ sym d.goes_on.lists;
@@ -121,7 +121,7 @@ reduces_one lists old new before after p can p_is absent rule d few =
       goes_on = d.goes_on;
       kept = d.kept;
       few = omega (arith, few, count);
-      stays = λ q other e. ap (λ (m : Deletions). unit_of m q) marked ∙ grown_unit before p q id other first last absent e;
+      stays = λ q other e. ap (λ (m : Deletions). unit_row_no m q) marked ∙ grown_unit before p q id other first last absent e;
       ids = d.id ∷ [];
       later = λ n i. let e = one_of n d.id i in let l = d.later in (omega (arith, l.0), omega (arith, l.1));
       held = d.held;
@@ -130,8 +130,8 @@ reduces_one lists old new before after p can p_is absent rule d few =
       apart = λ n i j. true≢false (sym j);
       only = λ n live out none. d.only n live out;
       all = λ q other e. elim (cases_eq q p) [
-        | inl f ↦ inr (here_is d.id other.0 (some_number d.id other (sym here ∙ ap (unit_of after) (sym f) ∙ e)))
-        | inr differs ↦ inl (sym (marked_other before p id first last q differs) ∙ ap (λ (m : Deletions). unit_of m q) (sym marked) ∙ e)
+        | inl f ↦ inr (here_is d.id other.0 (some_number d.id other (sym here ∙ ap (unit_row_no after) (sym f) ∙ e)))
+        | inr differs ↦ inl (sym (marked_other before p id first last q differs) ∙ ap (λ (m : Deletions). unit_row_no m q) (sym marked) ∙ e)
       ];
       count = omega (arith, count);
       each = λ n i. (p, here ∙ ap (λ (k : ℕ). Some (row_no k)) (sym (one_of n d.id i)));
@@ -245,15 +245,15 @@ reduces_more lists a b c x y z xs ys g h = record {
 
 pub left_of : (lists : Lists) (d : Derived) (deletions : Deletions) (p : ℕ) → CanReduce lists d deletions → IsPairNo lists p → is_deleted deletions p ≡ false → deleted_count deletions + 1 ≤ pair_count lists
 left_of lists d deletions p can p_is e =
-    omega (arith, one_left deletions p (row_no 0) p_is.0 (omega (arith, can.pairs, p_is.1)) (absent_from (unit_of deletions p) e), can.pairs)
+    omega (arith, one_left deletions p (row_no 0) p_is.0 (omega (arith, can.pairs, p_is.1)) (absent_from (unit_row_no deletions p) e), can.pairs)
 
 -- one more is deleted
 pub is_one_more : (old new : Derived) (before after : Deletions) (p : ℕ) → 1 ≤ p → p ≤ length before → is_deleted before p ≡ false → Deletes old new before after p → IsOneMore before after p
 is_one_more old new before after p first last e d = record {
-  gone = ap is_some (ap (λ (m : Deletions). unit_of m p) d.marked ∙ marked_here before p (row_no d.id) first last);
-  others = λ q other. ap is_some (ap (λ (m : Deletions). unit_of m q) d.marked ∙ marked_other before p (row_no d.id) first last q other);
+  gone = ap is_some (ap (λ (m : Deletions). unit_row_no m p) d.marked ∙ marked_here before p (row_no d.id) first last);
+  others = λ q other. ap is_some (ap (λ (m : Deletions). unit_row_no m q) d.marked ∙ marked_other before p (row_no d.id) first last q other);
   size = ap length d.marked ∙ length-set before (p - 1) (Some (row_no d.id));
-  count = ap deleted_count d.marked ∙ marked_count before p (row_no d.id) first last (absent_from (unit_of before p) e);
+  count = ap deleted_count d.marked ∙ marked_count before p (row_no d.id) first last (absent_from (unit_row_no before p) e);
 }
 
 -- ---- the end
@@ -267,7 +267,7 @@ are_in_none lists at d deletions same can = subst (λ (l : Lists). AreInNone l d
 pub none_counted : (n : ℕ) → deleted_count (replicate n None) ≡ 0
 none_counted n = let e = sum_by-replicate (λ (o : Option RowNo). if is_some o then 1 else 0) n None in omega (arith, e)
 
-pub none_at : (n p : ℕ) → unit_of (replicate n None) p ≡ None
+pub none_at : (n p : ℕ) → unit_row_no (replicate n None) p ≡ None
 none_at n zero = refl
 none_at zero (suc k) = refl
 none_at (suc n) (suc zero) = refl

@@ -8,7 +8,7 @@ use Rattle.pb_rows.specs.Rows.{in_normal_form, opposite_row}
 use Rattle.pb_rows.specs.Closure.{Implies, IsQuiet, Keeps, Literals, none}
 use Rattle.pb_rows.proofs.Coefs.{coef_row, lit, open_share, sum_below-le}
 use Rattle.rank_tables.specs.Numbers.{is_in, numbers_to}
-use Rattle.rank_tables.specs.Instance.{Lists, capacity_of, pair_at, pair_count, pairs_of_hospital, rank_by_hospital, rank_by_resident}
+use Rattle.rank_tables.specs.Instance.{Lists, capacity_of, pair_at, pair_count, rising_pairs_of_hospital, rank_by_hospital, rank_by_resident}
 use Rattle.rank_tables.specs.Tables.{IsPairNo}
 use Rattle.rank_tables.proofs.Numbers.{is_in-filter}
 use Rattle.rank_tables.specs.Terms.{has_post, is_as_good_for_resident}
@@ -101,7 +101,7 @@ module _ (lists : Lists) (gone : Pairs) (p w : ℕ) (rows : List PlainRow) (p_is
     unfolding others
     too_few =
         let c : ℕ = capacity_of lists (pair_at lists p).hospital in
-        let few : count_by others (pairs_of_hospital lists (pair_at lists p).hospital) < c = ltb-true (count_by others (pairs_of_hospital lists (pair_at lists p).hospital)) c sure in
+        let few : count_by others (rising_pairs_of_hospital lists (pair_at lists p).hospital) < c = ltb-true (count_by others (rising_pairs_of_hospital lists (pair_at lists p).hospital)) c sure in
         let le = sum_below-le (suc (pair_count lists)) (λ v. open_share set v (pair_coefs lists p v)) (λ v. if is_pair lists v && ((pair_at lists v).hospital == (pair_at lists p).hospital && others v) then 1 else 0)
         (λ v l. pair_share set v c (has_post lists p) (is_pair lists v) (v == p) (is_as_good_for_resident lists p v) ((pair_at lists v).hospital == (pair_at lists p).hospital) (nat_le (rank_by_hospital lists v) (rank_by_hospital lists p)) (gone v)
         (itself v) (as_good v) (deleted v)) in

@@ -9,7 +9,7 @@ use Rattle.pb_rows.specs.Rows.{in_normal_form, opposite_row}
 use Rattle.pb_rows.specs.Closure.{Implies, IsQuiet, Keeps, Literals, none}
 use Rattle.pb_rows.proofs.Coefs.{coef_row, lit, minus_sum, open_share, sum_below-add, sum_below-less, sum_below-one, term_in}
 use Rattle.rank_tables.specs.Numbers.{is_in, numbers_to}
-use Rattle.rank_tables.specs.Instance.{Lists, capacity_of, pair_at, pair_count, pairs_of_hospital, rank_by_hospital}
+use Rattle.rank_tables.specs.Instance.{Lists, capacity_of, pair_at, pair_count, rising_pairs_of_hospital, rank_by_hospital}
 use Rattle.rank_tables.specs.Tables.{IsPairNo}
 use Rattle.rank_tables.proofs.Numbers.{distinct-numbers_to, is_in-filter}
 use Rattle.stability_model.specs.Model.{hospital_row}
@@ -105,7 +105,7 @@ module _ (lists : Lists) (set : Literals) (p q : ℕ) (p_is : IsPairNo lists p) 
 
 -- ---- the rule
 
-module _ (lists : Lists) (p : ℕ) (rows : List PlainRow) (offered : ℕ → Bool) (p_is : IsPairNo lists p) (enough : capacity_of lists (pair_at lists p).hospital ≤ count_by (λ q. nat_lt (rank_by_hospital lists q) (rank_by_hospital lists p) && offered q) (pairs_of_hospital lists (pair_at lists p).hospital)) (offers : (q : ℕ) → IsPairNo lists q → offered q ≡ true → Contains rows (offer_row lists q)) (hospital : Contains rows (in_normal_form (hospital_row lists (pair_at lists p).hospital))) where
+module _ (lists : Lists) (p : ℕ) (rows : List PlainRow) (offered : ℕ → Bool) (p_is : IsPairNo lists p) (enough : capacity_of lists (pair_at lists p).hospital ≤ count_by (λ q. nat_lt (rank_by_hospital lists q) (rank_by_hospital lists p) && offered q) (rising_pairs_of_hospital lists (pair_at lists p).hospital)) (offers : (q : ℕ) → IsPairNo lists q → offered q ≡ true → Contains rows (offer_row lists q)) (hospital : Contains rows (in_normal_form (hospital_row lists (pair_at lists p).hospital))) where
   module _ (set : Literals) (quiet : IsQuiet (opposite_row (unit_row p) ∷ rows) none set) where
     kept : (row : PlainRow) → Contains rows row → Keeps set row
     kept row c = All-contains (Keeps set) rows row (All-tail (Keeps set) (opposite_row (unit_row p)) rows quiet.kept) c

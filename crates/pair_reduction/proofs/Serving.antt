@@ -6,7 +6,7 @@ use Rattle.hrt_base.specs.declared.numbered.PairNo.{PairNo}
 use Rattle.pb_rows.specs.Closure.{Implies}
 use Rattle.pb_rows.specs.Formula.{NumberedRow}
 use Rattle.rank_tables.specs.Numbers.{is_in}
-use Rattle.rank_tables.specs.Instance.{Lists, capacity_of, pair_at, pairs_of_hospital, rank_by_hospital}
+use Rattle.rank_tables.specs.Instance.{Lists, capacity_of, pair_at, rising_pairs_of_hospital, rank_by_hospital}
 use Rattle.rank_tables.specs.Tables.{IsPairNo}
 use Rattle.stability_model.proofs.Counts.{count_by_le}
 use Rattle.proof_rules.specs.States.{live_rows}
@@ -47,8 +47,8 @@ served_lower Resident lists live p w same le s = tt
 served_lower Hospital lists live p w same le s = record {
   offered = s.offered;
   enough =
-      subst (λ (h : ℕ). capacity_of lists h ≤ count_by (λ q. nat_lt (rank_by_hospital lists q) (rank_by_hospital lists w) && s.offered q) (pairs_of_hospital lists h)) same
-      (let more = count_by_le (λ q. nat_lt (rank_by_hospital lists q) (rank_by_hospital lists p) && s.offered q) (λ q. nat_lt (rank_by_hospital lists q) (rank_by_hospital lists w) && s.offered q) (pairs_of_hospital lists (pair_at lists p).hospital)
+      subst (λ (h : ℕ). capacity_of lists h ≤ count_by (λ q. nat_lt (rank_by_hospital lists q) (rank_by_hospital lists w) && s.offered q) (rising_pairs_of_hospital lists h)) same
+      (let more = count_by_le (λ q. nat_lt (rank_by_hospital lists q) (rank_by_hospital lists p) && s.offered q) (λ q. nat_lt (rank_by_hospital lists q) (rank_by_hospital lists w) && s.offered q) (rising_pairs_of_hospital lists (pair_at lists p).hospital)
       (λ q i h. still_before (rank_by_hospital lists q) (rank_by_hospital lists p) (rank_by_hospital lists w) (s.offered q) le h) in
       let enough = s.enough in
       omega arith);

@@ -5,7 +5,7 @@ use Rattle.hrt_base.specs.declared.numbered.PairNo.{PairNo}
 use Rattle.rank_tables.specs.Numbers.{is_distinct, is_in}
 use Rattle.rank_tables.specs.Tables.{numbers_of}
 use Rattle.rank_tables.specs.Numbers.{numbers_to}
-use Rattle.rank_tables.specs.Instance.{Lists, pair_at, pair_count, pairs_of_hospital}
+use Rattle.rank_tables.specs.Instance.{Lists, pair_at, pair_count, rising_pairs_of_hospital}
 use Rattle.rank_tables.proofs.Numbers.{distinct-filter, distinct-numbers_to}
 use Rattle.stability_model.proofs.Counts.{count_alike}
 
@@ -17,9 +17,9 @@ pub next_number : (ps : List PairNo) (i : ℕ) (d : PairNo) → i < length ps �
 next_number ps i d h = ap numbers_of (take_more ps i d h) ∙ pair_push (take i ps) (get_or ps i d)
 
 -- a count over a hospital's pairs as listed
-pub listed_count : (lists : Lists) (h k : ℕ) (t : ℕ → Bool) (ps : List PairNo) (i : ℕ) → h ≡ k → length ps ≤ i → is_distinct (numbers_of ps) ≡ true → ((p : ℕ) → is_in p (numbers_of ps) ≡ is_in p (pairs_of_hospital lists h)) →
-    count_by t (numbers_of (take i ps)) ≡ count_by t (pairs_of_hospital lists k)
+pub listed_count : (lists : Lists) (h k : ℕ) (t : ℕ → Bool) (ps : List PairNo) (i : ℕ) → h ≡ k → length ps ≤ i → is_distinct (numbers_of ps) ≡ true → ((p : ℕ) → is_in p (numbers_of ps) ≡ is_in p (rising_pairs_of_hospital lists h)) →
+    count_by t (numbers_of (take i ps)) ≡ count_by t (rising_pairs_of_hospital lists k)
 listed_count lists h k t ps i same all d alike =
     ap (λ (qs : List PairNo). count_by t (numbers_of qs)) (take_all i ps all)
-    ∙ count_alike t (numbers_of ps) (pairs_of_hospital lists h) d (distinct-filter (λ p. (pair_at lists p).hospital == h) (numbers_to (pair_count lists)) (distinct-numbers_to (pair_count lists))) alike
-    ∙ ap (λ (j : ℕ). count_by t (pairs_of_hospital lists j)) same
+    ∙ count_alike t (numbers_of ps) (rising_pairs_of_hospital lists h) d (distinct-filter (λ p. (pair_at lists p).hospital == h) (numbers_to (pair_count lists)) (distinct-numbers_to (pair_count lists))) alike
+    ∙ ap (λ (j : ℕ). count_by t (rising_pairs_of_hospital lists j)) same

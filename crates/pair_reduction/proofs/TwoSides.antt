@@ -4,7 +4,7 @@ use Rattle.std.specs.List.{list_all}
 use Rattle.std.proofs.lemmas.Bool.{and_from, cases_Bool, eq-eqb, le-leb, leb-false, leb-true, le-ltb, lt-ltb, ltb-true, or_left, or_right, true≢false}
 use Rattle.std.proofs.lemmas.List.Sums.{sum_by-cons}
 use Rattle.rank_tables.specs.Numbers.{is_distinct, is_in, numbers_to}
-use Rattle.rank_tables.specs.Instance.{Lists, capacity_of, pair_at, pair_count, pairs_of_hospital, pairs_of_resident, rank_by_hospital, rank_by_resident}
+use Rattle.rank_tables.specs.Instance.{Lists, capacity_of, pair_at, pair_count, rising_pairs_of_hospital, pairs_of_resident, rank_by_hospital, rank_by_resident}
 use Rattle.rank_tables.specs.Tables.{IsPairNo}
 use Rattle.rank_tables.proofs.Numbers.{distinct-filter, distinct-numbers_to, is_in-filter, list_any-count}
 use Rattle.rank_tables.proofs.PairFacts.{pair_at-acceptable}
@@ -120,7 +120,7 @@ rule_a-passed lists gone w =
 -- rule B is that a pair is passed by pairs whose residents have nothing else
 pub rule_b-passed : (lists : Lists) (gone : Pairs) (p : ℕ) → rule_b lists gone p ≡ is_passed Hospital lists (is_free Resident lists gone) p
 rule_b-passed lists gone p =
-    ap (nat_le (capacity_of lists (pair_at lists p).hospital)) (count_same_in (λ q. nat_lt (rank_by_hospital lists q) (rank_by_hospital lists p) && has_only lists gone q) (λ q. nat_lt (rank_by_hospital lists q) (rank_by_hospital lists p) && is_free Resident lists gone q) (pairs_of_hospital lists (pair_at lists p).hospital)
+    ap (nat_le (capacity_of lists (pair_at lists p).hospital)) (count_same_in (λ q. nat_lt (rank_by_hospital lists q) (rank_by_hospital lists p) && has_only lists gone q) (λ q. nat_lt (rank_by_hospital lists q) (rank_by_hospital lists p) && is_free Resident lists gone q) (rising_pairs_of_hospital lists (pair_at lists p).hospital)
     (λ q i. ap (λ (b : Bool). nat_lt (rank_by_hospital lists q) (rank_by_hospital lists p) && b) (free_only lists gone q)))
 
 -- what free pairs of the other side pass, a rule shows

@@ -9,7 +9,7 @@ use Rattle.std.proofs.lemmas.List.{length-append}
 use Rattle.hrt_base.specs.declared.numbered.RowNo.{RowNo}
 use Rattle.pb_rows.specs.Terms.{PlainRow, weighing}
 use Rattle.pb_rows.specs.Normal.{all_sizes, normal_form}
-use Rattle.pb_rows.specs.Rows.{IsNormal, in_normal_form}
+use Rattle.pb_rows.specs.Rows.{IsWellFormedRow, in_normal_form}
 use Rattle.pb_rows.specs.Closure.{Implies}
 use Rattle.row_text.specs.Rows.{is_small_row, literal_text, signed_text}
 use Rattle.row_text.specs.Tokens.{spaced}
@@ -17,7 +17,7 @@ use Rattle.rank_tables.specs.Instance.{pair_count}
 use Rattle.proof_lines.specs.declared.line.Line.TheVariants.{Rup}
 use Rattle.proof_lines.specs.declared.note.Note.TheVariants.{Unit as UnitRow}
 use Rattle.proof_lines.specs.Spelling.{most_bytes, row_no}
-use Rattle.proof_lines.specs.Texts.{is_made_id, line_text, note_text}
+use Rattle.proof_lines.specs.Texts.{is_spellable_id, line_text, note_text}
 use Rattle.proof_rules.specs.Refusals.{TooBig}
 use Rattle.proof_rules.specs.States.{State, if_known, literals_in, live_rows, rup_row, with_row}
 use Rattle.proof_rules.proofs.Canonical.{normal_form-normal}
@@ -27,7 +27,7 @@ use Rattle.derivation.specs.Derived.{Derived}
 use Rattle.derivation.specs.Steps.{IsWritable, Takes, with_note, written_of}
 use Rattle.pair_reduction.specs.Reduced.{StopsAtUnit, with_unit, with_unit_row}
 
-unit_normal : (p : ℕ) → IsNormal (unit_row p)
+unit_normal : (p : ℕ) → IsWellFormedRow (unit_row p)
 unit_normal p = record { rising = (zero-le, omega arith, tt); fits = record { sum = omega arith; degree = omega arith } }
 
 pub unit_form : (p : ℕ) → normal_form (weighing 1 (record { var = p; neg = true }) ∷ []) (pos 1) ≡ unit_row p
@@ -82,7 +82,7 @@ taken_row p old new taken =
 pub taken_unit : (row : PlainRow) (p : ℕ) (old new : Derived) → row ≡ unit_row p → Takes (Rup (written_of row)) old new → new ≡ with_unit_row p old
 taken_unit row p old new e taken = taken_row p old new (subst (λ (r : PlainRow). Takes (Rup (written_of r)) old new) e taken)
 
-pub note_made : (n next : ℕ) → n ≡ next → 1 ≤ next → next < 10 ^ 18 → is_made_id (row_no n) ≡ true
+pub note_made : (n next : ℕ) → n ≡ next → 1 ≤ next → next < 10 ^ 18 → is_spellable_id (row_no n) ≡ true
 note_made n next e first last = and_from (nat_le 1 n) (nat_le n (10 ^ 18 - 1)) (le-leb 1 n (omega arith)) (le-leb n (10 ^ 18 - 1) (omega arith))
 
 pub note_short : (n : ℕ) → n < 10 ^ 18 → length (note_text (UnitRow (row_no n))) ≤ most_bytes

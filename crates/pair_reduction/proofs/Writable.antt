@@ -15,16 +15,16 @@ use Rattle.proof_lines.specs.declared.line.PolStep.{PolStep}
 use Rattle.proof_lines.specs.declared.line.PolStep.TheVariants.{Id, Times, Add}
 use Rattle.proof_lines.specs.declared.line.Line.TheVariants.{Pol}
 use Rattle.proof_lines.specs.Spelling.{is_small_step}
-use Rattle.proof_lines.specs.Texts.{is_made_step, step_words}
+use Rattle.proof_lines.specs.Texts.{is_spellable_step, step_words}
 use Rattle.proof_rules.specs.States.{AreNumbered}
 use Rattle.proof_rules.proofs.Numbers.{live_within}
-use Rattle.derivation.specs.Deletions.{AreUnitRows, Deletions, unit_of, unit_row}
+use Rattle.derivation.specs.Deletions.{AreUnitRows, Deletions, unit_row_no, unit_row}
 use Rattle.derivation.specs.Steps.{IsWritable}
 use Rattle.pair_reduction.specs.Offers.{unit_steps}
 
 -- the steps can be written in so many bytes
 pub record AreGood (steps : List PolStep) (most : ℕ) : Type 0 where
-  pub made : list_all is_made_step steps ≡ true
+  pub made : list_all is_spellable_step steps ≡ true
   pub small : list_all is_small_step steps ≡ true
   pub short : length (spaced (flat_map step_words steps)) ≤ most
 
@@ -34,7 +34,7 @@ all_append test (x ∷ xs) ys h k = let p = and_parts (test x) (list_all test xs
 
 pub good_append : (xs ys : List PolStep) (a b : ℕ) → AreGood xs a → AreGood ys b → AreGood (xs ++ ys) (a + b)
 good_append xs ys a b h k = record {
-  made = all_append is_made_step xs ys h.made k.made;
+  made = all_append is_spellable_step xs ys h.made k.made;
   small = all_append is_small_step xs ys h.small k.small;
   short = omega (
     arith,
@@ -84,12 +84,12 @@ module _ (live : List NumberedRow) (next : ℕ) (order : AreNumbered 1 next live
     if_good true o p h = unit_good o p h
     if_good false o p h = none_good 29
 
-    pub each_good : (counted : ℕ → Bool) (deletions : Deletions) → AreUnitRows live deletions → (ps : List ℕ) → AreGood (flat_map (λ p. if counted p then unit_steps c (unit_of deletions p) else []) ps) (29 * length ps)
+    pub each_good : (counted : ℕ → Bool) (deletions : Deletions) → AreUnitRows live deletions → (ps : List ℕ) → AreGood (flat_map (λ p. if counted p then unit_steps c (unit_row_no deletions p) else []) ps) (29 * length ps)
     each_good counted deletions units [] = none_good 0
     each_good counted deletions units (p ∷ ps) =
-        good_less (flat_map (λ p. if counted p then unit_steps c (unit_of deletions p) else []) (p ∷ ps)) (29 + 29 * length ps) (29 * length (p ∷ ps)) (omega arith)
-        (good_append (if counted p then unit_steps c (unit_of deletions p) else []) (flat_map (λ p. if counted p then unit_steps c (unit_of deletions p) else []) ps) 29 (29 * length ps)
-        (if_good (counted p) (unit_of deletions p) p (units p)) (each_good counted deletions units ps))
+        good_less (flat_map (λ p. if counted p then unit_steps c (unit_row_no deletions p) else []) (p ∷ ps)) (29 + 29 * length ps) (29 * length (p ∷ ps)) (omega arith)
+        (good_append (if counted p then unit_steps c (unit_row_no deletions p) else []) (flat_map (λ p. if counted p then unit_steps c (unit_row_no deletions p) else []) ps) 29 (29 * length ps)
+        (if_good (counted p) (unit_row_no deletions p) p (units p)) (each_good counted deletions units ps))
 
 pub good_writable : (step : PolStep) (steps : List PolStep) (most : ℕ) → AreGood (step ∷ steps) most → most ≤ 16000000 → IsWritable (Pol (step ∷ steps))
 good_writable step steps most h l = record {

@@ -9,7 +9,7 @@ use Rattle.stability_model.specs.Model.{hospital_row_no, pair_row_no, term}
 use Rattle.proof_lines.specs.declared.line.PolStep.{PolStep}
 use Rattle.proof_lines.specs.declared.line.PolStep.TheVariants.{Id, Times, Add}
 use Rattle.proof_lines.specs.Spelling.{row_no}
-use Rattle.derivation.specs.Deletions.{Deletions, unit_of}
+use Rattle.derivation.specs.Deletions.{Deletions, unit_row_no}
 
 -- pair v is of the same hospital as pair q, which ranks it strictly lower
 abbrev pub is_lower : Lists → ℕ → ℕ → Bool
@@ -38,7 +38,7 @@ unit_steps c (Some id) = Id id ∷ Times (pos c) ∷ Add ∷ []
 
 -- the posts times the unit row of a pair o that comes before q is added, if it has one
 abbrev pub before_steps : Lists → Deletions → ℕ → ℕ → List PolStep
-before_steps lists deletions q o = if is_before lists q o then unit_steps (capacity_of lists (pair_at lists q).hospital) (unit_of deletions o) else []
+before_steps lists deletions q o = if is_before lists q o then unit_steps (capacity_of lists (pair_at lists q).hospital) (unit_row_no deletions o) else []
 
 -- the row of the model with this number is added, if there is one
 abbrev pub row_steps : Option ℕ → List PolStep

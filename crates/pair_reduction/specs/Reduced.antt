@@ -4,7 +4,7 @@ use Rattle.pb_rows.specs.Terms.{PlainRow}
 use Rattle.hrt_base.specs.declared.numbered.RowNo.{RowNo}
 use Rattle.pb_rows.specs.Formula.{NumberedRow, is_numbered, row_of}
 use Rattle.rank_tables.specs.Numbers.{is_distinct, is_in}
-use Rattle.rank_tables.specs.Instance.{Lists, capacity_of, pair_at, pair_count, pairs_of_hospital, rank_by_hospital}
+use Rattle.rank_tables.specs.Instance.{Lists, capacity_of, pair_at, pair_count, rising_pairs_of_hospital, rank_by_hospital}
 use Rattle.rank_tables.specs.Tables.{IsPairNo}
 use Rattle.stability_model.specs.Gone.{Gone, rule_a, rule_b}
 use Rattle.rank_tables.specs.Stability.{is_weakly_stable}
@@ -13,7 +13,7 @@ use Rattle.proof_lines.specs.declared.note.Note.TheVariants.{Unit as UnitRow}
 use Rattle.proof_lines.specs.Spelling.{row_no}
 use Rattle.proof_lines.specs.Texts.{line_text}
 use Rattle.proof_rules.specs.Held.{keeping, row_numbers}
-use Rattle.derivation.specs.Deletions.{AreUnitRows, Deletions, deleted_count, is_deleted, unit_of, unit_row}
+use Rattle.derivation.specs.Deletions.{AreUnitRows, Deletions, deleted_count, is_deleted, unit_row_no, unit_row}
 use Rattle.derivation.specs.Derived.{Derived, StaysValid}
 use Rattle.derivation.specs.Ready.{IsReady}
 use Rattle.derivation.specs.Steps.{with_new_row, with_note, written_of}
@@ -46,8 +46,8 @@ pub record HoldsUnits (old new : Derived) (deletions : Deletions) : Type 0 where
   pub notes : AddsNotes (unit_notes ids) old new
   pub only : LeavesOnly ids old new
   pub count : length ids ≡ deleted_count deletions
-  pub each : (n : ℕ) → is_in n ids ≡ true → (p : ℕ) × (unit_of deletions p ≡ Some (record { 0 = n }))
-  pub all : (p : ℕ) (id : RowNo) → unit_of deletions p ≡ Some id → is_in id.0 ids ≡ true
+  pub each : (n : ℕ) → is_in n ids ≡ true → (p : ℕ) × (unit_row_no deletions p ≡ Some (record { 0 = n }))
+  pub all : (p : ℕ) (id : RowNo) → unit_row_no deletions p ≡ Some id → is_in id.0 ids ≡ true
 
 -- at most 20,001 rows were made for each of so many pairs
 abbrev pub MakesFew : ℕ → Derived → Derived → Type 0
@@ -76,7 +76,7 @@ pub record AreMade (old new : Derived) (ids : List RowNo) : Type 0 where
 -- each pair that is offering is live
 pub record HasOffers (lists : Lists) (p : ℕ) (live : List NumberedRow) : Type 0 where
   pub offered : ℕ → Bool
-  pub enough : capacity_of lists (pair_at lists p).hospital ≤ count_by (λ q. nat_lt (rank_by_hospital lists q) (rank_by_hospital lists p) && offered q) (pairs_of_hospital lists (pair_at lists p).hospital)
+  pub enough : capacity_of lists (pair_at lists p).hospital ≤ count_by (λ q. nat_lt (rank_by_hospital lists q) (rank_by_hospital lists p) && offered q) (rising_pairs_of_hospital lists (pair_at lists p).hospital)
   pub rows : (q : ℕ) → IsPairNo lists q → offered q ≡ true → (n : ℕ) × (row_of n live ≡ Some (offer_row lists q))
 
 -- these rows can be forgotten
@@ -129,7 +129,7 @@ pub record Reduces (lists : Lists) (old new : Derived) (before after : Deletions
   pub goes_on : GoesOn old new
   pub kept : KeepsLive old new
   pub few : new.state.next + deleted_count before ≤ old.state.next + deleted_count after + length made
-  pub stays : (p : ℕ) (id : RowNo) → unit_of before p ≡ Some id → unit_of after p ≡ Some id
+  pub stays : (p : ℕ) (id : RowNo) → unit_row_no before p ≡ Some id → unit_row_no after p ≡ Some id
   pub ids : List ℕ
   pub later : (n : ℕ) → is_in n ids ≡ true → (old.state.next ≤ n) × (n + 1 ≤ new.state.next)
   pub held : new.held ≡ keeping ids old.held
@@ -138,8 +138,8 @@ pub record Reduces (lists : Lists) (old new : Derived) (before after : Deletions
   pub apart : (n : ℕ) → is_in n ids ≡ true → is_in n (row_numbers made) ≡ true → ⊥
   pub only : (n : ℕ) → is_numbered n new.state.live ≡ true → is_in n ids ≡ false → is_in n (row_numbers made) ≡ false → is_numbered n old.state.live ≡ true
   pub count : length ids + deleted_count before ≡ deleted_count after
-  pub each : (n : ℕ) → is_in n ids ≡ true → (p : ℕ) × (unit_of after p ≡ Some (row_no n))
-  pub all : (p : ℕ) (id : RowNo) → unit_of after p ≡ Some id → (unit_of before p ≡ Some id) ⊎ (is_in id.0 ids ≡ true)
+  pub each : (n : ℕ) → is_in n ids ≡ true → (p : ℕ) × (unit_row_no after p ≡ Some (row_no n))
+  pub all : (p : ℕ) (id : RowNo) → unit_row_no after p ≡ Some id → (unit_row_no before p ≡ Some id) ⊎ (is_in id.0 ids ≡ true)
 
 -- where a rule shows the pair, it is deleted
 abbrev pub IsClosedTo : Lists → Deletions → ℕ → Type 0

@@ -1,6 +1,6 @@
 -- Both sides of an instance in the same words: lists of residents and lists of hospitals.
 use Rattle.std.specs.Prelude.{◌≡◌, ℕ, Bool, not, ◌&&◌, ◌==◌, nat_lt, nat_le, List, length, count_by}
-use Rattle.rank_tables.specs.Instance.{Lists, capacity_of, pair_at, pairs_of_hospital, pairs_of_resident, rank_by_hospital, rank_by_resident}
+use Rattle.rank_tables.specs.Instance.{Lists, capacity_of, pair_at, rising_pairs_of_hospital, pairs_of_resident, rank_by_hospital, rank_by_resident}
 use Rattle.rank_tables.specs.Tables.{IsPairNo}
 use Rattle.stability_model.specs.Gone.{Pairs}
 use Rattle.pair_reduction.specs.declared.sides.Side.{Side}
@@ -24,7 +24,7 @@ list_of Hospital lists p = (pair_at lists p).hospital
 -- the pairs of a list, rising
 abbrev pub pairs_on : Side → Lists → ℕ → List ℕ
 pairs_on Resident lists n = pairs_of_resident lists n
-pairs_on Hospital lists n = pairs_of_hospital lists n
+pairs_on Hospital lists n = rising_pairs_of_hospital lists n
 
 -- p is the number of a pair of this list
 pub record IsOn (side : Side) (lists : Lists) (n p : ℕ) : Type 0 where

@@ -1,7 +1,7 @@
 // Offers: for a resident that has nothing else left than a pair, the row that this pair is taken where its hospital takes one
 // that it ranks lower.
 ghost use Rattle.std.specs.Prelude.{◌≡◌, ◌+◌, ◌<◌, ◌≤◌, ◌++◌, ◌^◌, IfOk, OnErr, OnOk, length, pos, true};
-ghost use Rattle.rank_tables.specs.Instance.{capacity_of, pair_at, pairs_of_hospital};
+ghost use Rattle.rank_tables.specs.Instance.{capacity_of, pair_at, rising_pairs_of_hospital};
 ghost use Rattle.rank_tables.specs.Tables.{IsPairNo};
 ghost use Rattle.stability_model.specs.Gone.{has_only};
 ghost use Rattle.proof_lines.specs.Texts.{line_text};
@@ -107,7 +107,7 @@ pub(crate) fn offer(
     requires q { IsPairNo model.now q.0 }
     requires only { has_only model.now (is_deleted gone.now) q.0 ≡ true }
     requires posts { 0 < capacity_of model.now (pair_at model.now q.0).hospital }
-    requires few { capacity_of model.now (pair_at model.now q.0).hospital ≤ length (pairs_of_hospital model.now (pair_at model.now q.0).hospital) }
+    requires few { capacity_of model.now (pair_at model.now q.0).hospital ≤ length (rising_pairs_of_hospital model.now (pair_at model.now q.0).hospital) }
     requires next { deriv.old.state.next < 10 ^ 18 }
     ensures id { IfOk result (λ id. id.0 ≡ deriv.old.state.next) }
     ensures made { OnOk result (deriv.new ≡ with_new_row (offer_row model.now q.0) (line_text (Line.Pol (offer_steps model.now gone.now q.0))) deriv.old) }
@@ -139,7 +139,7 @@ fn offer_once(
     requires q { IsPairNo model.now q.0 }
     requires only { has_only model.now (is_deleted gone.now) q.0 ≡ true }
     requires posts { 0 < capacity_of model.now (pair_at model.now q.0).hospital }
-    requires few { capacity_of model.now (pair_at model.now q.0).hospital ≤ length (pairs_of_hospital model.now (pair_at model.now q.0).hospital) }
+    requires few { capacity_of model.now (pair_at model.now q.0).hospital ≤ length (rising_pairs_of_hospital model.now (pair_at model.now q.0).hospital) }
     requires next { deriv.old.state.next + offers_left model.now offers.old ≤ 10 ^ 18 }
     ensures reduces { OnOk result (ReducesBy model.now deriv.old deriv.new gone.now gone.now offers.old offers.new) }
     ensures offered { OnOk result (is_marked offers.new.offered.items q.0 ≡ true) }

@@ -5,7 +5,7 @@ ghost use Rattle.rank_tables.specs.Instance.{pair_count};
 ghost use Rattle.rank_tables.specs.Tables.{IsPairNo};
 ghost use Rattle.proof_lines.specs.Spelling.{row_no};
 ghost use Rattle.proof_rules.specs.States.{live_rows};
-ghost use Rattle.derivation.specs.Deletions.{unit_of, unit_row};
+ghost use Rattle.derivation.specs.Deletions.{unit_row_no, unit_row};
 ghost use Rattle.derivation.specs.Derived.{StaysValid};
 ghost use Rattle.pair_reduction.specs.Reduced.{StopsAtUnit, with_unit};
 
@@ -41,7 +41,7 @@ pub(crate) fn delete(
     requires model { model.now ≡ deriv.old.lists }
     requires open { deriv.old.claim ≡ None }
     requires p { IsPairNo model.now p.0 }
-    requires absent { unit_of gone.old p.0 ≡ None }
+    requires absent { unit_row_no gone.old p.0 ≡ None }
     requires pairs { length gone.old ≡ pair_count model.now }
     requires implied { Implies (live_rows deriv.old.state) (unit_row p.0) }
     requires next { deriv.old.state.next < 10 ^ 18 }

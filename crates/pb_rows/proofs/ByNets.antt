@@ -3,9 +3,9 @@ use Rattle.std.proofs.Common.{◌≡◌, ℕ, zero, suc, ◌+◌, ◌-◌, ◌<�
 use Rattle.std.proofs.lemmas.Int.{ints}
 use Rattle.std.proofs.lemmas.Bool.{le-leb, cases_eq, cases_lt, eq-eqb, ne_eqb}
 use Rattle.hrt_base.specs.declared.literal.Term.{Term}
-use Rattle.pb_rows.specs.Terms.{IsPositive, IsRisingFrom, PlainRow, is_over}
+use Rattle.pb_rows.specs.Terms.{IsPositive, IsRisingFrom, PlainRow, is_over, positive_part}
 use Rattle.pb_rows.specs.Points.{Point, true_sum, value_at}
-use Rattle.pb_rows.specs.Normal.{gained, joined, negative_part, net, net_term, normal_form, on_opposites, or_zero, var_bound}
+use Rattle.pb_rows.specs.Normal.{gained, joined, negative_part, net, net_term, normal_form, on_opposites, var_bound}
 use Rattle.pb_rows.specs.Rows.{HoldsWhere, holds}
 use Rattle.pb_rows.specs.Joined.{joined_form, lost_all, put_all, signless_all, turned, turned_sum}
 use Rattle.pb_rows.proofs.Order.{determined, put_all_rising}
@@ -116,15 +116,15 @@ joined_sum p (suc v) ts =
 
 -- ---- the comparison
 
-or_zero_le : (z : ℤ) (t : ℕ) → nat_le (or_zero z) t ≡ int_le z (pos t)
-or_zero_le (pos n) t = refl
-or_zero_le (negsuc n) t = le-leb 0 t zero-le
+positive_part_le : (z : ℤ) (t : ℕ) → nat_le (positive_part z) t ≡ int_le z (pos t)
+positive_part_le (pos n) t = refl
+positive_part_le (negsuc n) t = le-leb 0 t zero-le
 
 same_le : (a b c d : ℤ) → a +ℤ d ≡ c +ℤ b → int_le a b ≡ int_le c d
 same_le a b c d e = grind (arith, ints)
 
-compare : (a o r val : ℤ) (s t : ℕ) → pos t ≡ r +ℤ pos s → val ≡ o +ℤ r → nat_le (or_zero ((a -ℤ o) +ℤ pos s)) t ≡ int_le a val
-compare a o r val s t e f = or_zero_le ((a -ℤ o) +ℤ pos s) t ∙ same_le ((a -ℤ o) +ℤ pos s) (pos t) a val (omega (arith, ints))
+compare : (a o r val : ℤ) (s t : ℕ) → pos t ≡ r +ℤ pos s → val ≡ o +ℤ r → nat_le (positive_part ((a -ℤ o) +ℤ pos s)) t ≡ int_le a val
+compare a o r val s t e f = positive_part_le ((a -ℤ o) +ℤ pos s) t ∙ same_le ((a -ℤ o) +ℤ pos s) (pos t) a val (omega (arith, ints))
 
 pub holds-normal_form : (p : Point) (terms : List Term) (at_least : ℤ) → holds p (normal_form terms at_least) ≡ int_le at_least (value_at p terms)
 holds-normal_form p terms at_least =
@@ -180,31 +180,31 @@ covered : (ts : List Term) → pos 0 ≤ℤ (on_opposites ts +ℤ pos (turned_su
 covered [] = omega (arith, ints)
 covered (t ∷ ts) = omega (arith, ints, covered_step t.coef t.lit.neg, covered ts)
 
-or_zero_kept : (z : ℤ) → pos 0 ≤ℤ z → pos (or_zero z) ≡ z
-or_zero_kept (pos n) h = refl
-or_zero_kept (negsuc n) h = absurd (omega (arith, ints))
+positive_part_kept : (z : ℤ) → pos 0 ≤ℤ z → pos (positive_part z) ≡ z
+positive_part_kept (pos n) h = refl
+positive_part_kept (negsuc n) h = absurd (omega (arith, ints))
 
-or_zero_least : (z : ℤ) → z ≤ℤ pos 0 → or_zero z ≡ 0
-or_zero_least (pos n) h = omega (arith, ints)
-or_zero_least (negsuc n) h = refl
+positive_part_least : (z : ℤ) → z ≤ℤ pos 0 → positive_part z ≡ 0
+positive_part_least (pos n) h = omega (arith, ints)
+positive_part_least (negsuc n) h = refl
 
-or_zero_less : (z : ℤ) (k : ℕ) → or_zero z - k ≡ or_zero (z -ℤ pos k)
-or_zero_less (pos n) k = elim (cases_lt k n) [
-  | inl h ↦ let e : pos n -ℤ pos k ≡ pos (n - k) = omega (arith, ints) in sym (ap or_zero e)
-  | inr h ↦ let e : or_zero (pos n -ℤ pos k) ≡ 0 = or_zero_least (pos n -ℤ pos k) (omega (arith, ints)) in rw e (omega arith)
+positive_part_less : (z : ℤ) (k : ℕ) → positive_part z - k ≡ positive_part (z -ℤ pos k)
+positive_part_less (pos n) k = elim (cases_lt k n) [
+  | inl h ↦ let e : pos n -ℤ pos k ≡ pos (n - k) = omega (arith, ints) in sym (ap positive_part e)
+  | inr h ↦ let e : positive_part (pos n -ℤ pos k) ≡ 0 = positive_part_least (pos n -ℤ pos k) (omega (arith, ints)) in rw e (omega arith)
 ]
-or_zero_less (negsuc n) k = let e : or_zero (negsuc n -ℤ pos k) ≡ 0 = or_zero_least (negsuc n -ℤ pos k) (omega (arith, ints)) in rw e (omega arith)
+positive_part_less (negsuc n) k = let e : positive_part (negsuc n -ℤ pos k) ≡ 0 = positive_part_least (negsuc n -ℤ pos k) (omega (arith, ints)) in rw e (omega arith)
 
 pub joined_form_is : (ts : List Term) (at_least : ℤ) → joined_form ts at_least ≡ normal_form ts at_least
 joined_form_is ts at_least =
     let all : List Term = signless_all ts in
     let n : ℕ = var_bound ts in
-    let m : ℕ = or_zero (on_opposites ts +ℤ pos (turned_sum ts)) in
-    let m_is : pos m ≡ on_opposites ts +ℤ pos (turned_sum ts) = or_zero_kept (on_opposites ts +ℤ pos (turned_sum ts)) (covered ts) in
+    let m : ℕ = positive_part (on_opposites ts +ℤ pos (turned_sum ts)) in
+    let m_is : pos m ≡ on_opposites ts +ℤ pos (turned_sum ts) = positive_part_kept (on_opposites ts +ℤ pos (turned_sum ts)) (covered ts) in
     let same = determined 0 0 (put_all [] all) (joined n ts) (lost_all [] all + gained n ts) m (put_all_rising 0 [] all (signless_from ts) tt) (joined_rising n ts)
     (λ p. omega (arith, ints, put_all_value p [] all, signless_values p ts, joined_sum p n ts, by_variables p n ts (omega arith), value_split p ts, m_is)) in
     let e : (at_least +ℤ pos (turned_sum ts)) -ℤ pos (lost_all [] all) ≡ (at_least -ℤ on_opposites ts) +ℤ pos (gained n ts) = omega (arith, ints, same.1, m_is) in
-    ap₂ (λ (us : List Term) (d : ℕ). record { terms = us; degree = d }) same.0 (or_zero_less (at_least +ℤ pos (turned_sum ts)) (lost_all [] all) ∙ ap or_zero e)
+    ap₂ (λ (us : List Term) (d : ℕ). record { terms = us; degree = d }) same.0 (positive_part_less (at_least +ℤ pos (turned_sum ts)) (lost_all [] all) ∙ ap positive_part e)
 
 -- of a row that the code made
 pub made_normal : (r : PlainRow) (ts : List Term) (at_least : ℤ) → r ≡ joined_form ts at_least → r ≡ normal_form ts at_least
@@ -212,7 +212,7 @@ made_normal r ts at_least e = e ∙ joined_form_is ts at_least
 
 -- ---- terms that are worth the same at every point
 
-parted : (z : ℤ) → pos (or_zero z) ≡ z +ℤ pos (or_zero (neg_ℤ z))
+parted : (z : ℤ) → pos (positive_part z) ≡ z +ℤ pos (positive_part (neg_ℤ z))
 parted (pos zero) = refl
 parted (pos (suc n)) = omega (arith, ints)
 parted (negsuc n) = omega (arith, ints)
@@ -225,7 +225,7 @@ normal_form-same ts us at_least h =
     let g : ℕ = gained (var_bound ts) ts in
     let k : ℕ = gained (var_bound us) us in
     let z : ℤ = (on_opposites ts +ℤ pos k) -ℤ (on_opposites us +ℤ pos g) in
-    let same = determined 0 0 (joined (var_bound ts) ts) (joined (var_bound us) us) (or_zero z) (or_zero (neg_ℤ z)) (joined_rising (var_bound ts) ts) (joined_rising (var_bound us) us)
+    let same = determined 0 0 (joined (var_bound ts) ts) (joined (var_bound us) us) (positive_part z) (positive_part (neg_ℤ z)) (joined_rising (var_bound ts) ts) (joined_rising (var_bound us) us)
     (λ p. omega (arith, ints, value_is p ts, value_is p us, h p, parted z)) in
     let e : (at_least -ℤ on_opposites ts) +ℤ pos g ≡ (at_least -ℤ on_opposites us) +ℤ pos k = omega (arith, ints, same.1, parted z) in
-    ap₂ (λ (vs : List Term) (d : ℕ). record { terms = vs; degree = d }) same.0 (ap or_zero e)
+    ap₂ (λ (vs : List Term) (d : ℕ). record { terms = vs; degree = d }) same.0 (ap positive_part e)

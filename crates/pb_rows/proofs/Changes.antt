@@ -10,9 +10,9 @@ use Rattle.std.proofs.lemmas.Bool.Decides.{nat_tests}
 use Rattle.std.proofs.lemmas.Grind.{div_ceil_times}
 use Rattle.std.proofs.Math.Nat.{mul-le-mul_left, mul-le-mul_right}
 use Rattle.hrt_base.specs.declared.literal.Term.{Term}
-use Rattle.pb_rows.specs.Terms.{IsRisingFrom, PlainRow, capped, coef_sum, divided, is_over, is_present, negated, reweighed, scaled, weight, weight_over}
+use Rattle.pb_rows.specs.Terms.{IsRisingFrom, PlainRow, capped, coef_sum, divided, is_over, is_present, negated, reweighed, scaled, positive_part, weight_over}
 use Rattle.pb_rows.specs.Points.{Point, is_true_at, share, true_sum}
-use Rattle.pb_rows.specs.Rows.{AddsValues, Fits, HoldsAfter, HoldsWithBoth, IsNormal, divide, holds, opposite_row, saturate, times, weaken}
+use Rattle.pb_rows.specs.Rows.{AddsValues, Fits, HoldsAfter, HoldsWithBoth, IsWellFormedRow, divide, holds, opposite_row, saturate, times, weaken}
 use Rattle.pb_rows.specs.Joined.{merged, put_all}
 use Rattle.pb_rows.proofs.Order.{positive_weight, put_all_rising, put_all_sum, rising_down, rising_from}
 use Rattle.pb_rows.proofs.Sums.{coef_sum_more_le}
@@ -22,18 +22,18 @@ abbrev pub row_of : List Term → ℕ → PlainRow
 row_of ts d = record { terms = ts; degree = d }
 
 -- a number that was passed on by value
-pub weight_passed : (z : ℤ) → SFits w128 z → weight (to_z w128 (of_z w128 z)) ≡ weight z
-weight_passed z h = ap weight (to_z-of_z w128 z h)
+pub weight_passed : (z : ℤ) → SFits w128 z → positive_part (to_z w128 (of_z w128 z)) ≡ positive_part z
+weight_passed z h = ap positive_part (to_z-of_z w128 z h)
 
 -- ---- any change of the coefficients
 
 pub reweighed_rising : (f : ℕ → ℕ) → ((n : ℕ) → 0 < n → 0 < f n) → (low : ℕ) (ts : List Term) → IsRisingFrom low ts → IsRisingFrom low (map (reweighed f) ts)
 reweighed_rising f h low [] r = tt
-reweighed_rising f h low (t ∷ ts) r = (r.0, h (weight t.coef) (positive_weight t.coef r.1), reweighed_rising f h (t.lit.var + 1) ts r.2)
+reweighed_rising f h low (t ∷ ts) r = (r.0, h (positive_part t.coef) (positive_weight t.coef r.1), reweighed_rising f h (t.lit.var + 1) ts r.2)
 
 pub reweighed_sum : (f : ℕ → ℕ) → ((n : ℕ) → f n ≤ n) → (ts : List Term) → coef_sum (map (reweighed f) ts) ≤ coef_sum ts
 reweighed_sum f h [] = omega arith
-reweighed_sum f h (t ∷ ts) = omega (arith, h (weight t.coef), reweighed_sum f h ts)
+reweighed_sum f h (t ∷ ts) = omega (arith, h (positive_part t.coef), reweighed_sum f h ts)
 
 -- ---- multiplication
 
@@ -44,16 +44,16 @@ scaled_sum k (t ∷ ts) = omega (arith, scaled_sum k ts)
 positive_times : (k : ℕ) → 0 < k → (n : ℕ) → 0 < n → 0 < n * k
 positive_times k p n h = omega (arith, mul-le-mul_right k h, p)
 
-pub times_normal : (k : ℕ) (ts : List Term) (d : ℕ) → 0 < k → (coef_sum ts * k ≤ 2 ^ 120) × (d * k ≤ 2 ^ 120) → IsNormal (row_of ts d) → IsNormal (row_of (map (scaled k) ts) (d * k))
+pub times_normal : (k : ℕ) (ts : List Term) (d : ℕ) → 0 < k → (coef_sum ts * k ≤ 2 ^ 120) × (d * k ≤ 2 ^ 120) → IsWellFormedRow (row_of ts d) → IsWellFormedRow (row_of (map (scaled k) ts) (d * k))
 times_normal k ts d p f r = record {
   rising = reweighed_rising (λ n. n * k) (positive_times k p) 0 ts r.rising;
   fits = record { sum = omega (arith, scaled_sum k ts, f.0); degree = f.1 };
 }
 
-weight_within : (ts : List Term) (i : ℕ) (d : Term) → i < length ts → weight (get_or ts i d).coef ≤ coef_sum ts
+weight_within : (ts : List Term) (i : ℕ) (d : Term) → i < length ts → positive_part (get_or ts i d).coef ≤ coef_sum ts
 weight_within ts i d h = omega (arith, coef_sum_more_le ts i d h)
 
-pub each_fits : (k : ℕ) (ts : List Term) → coef_sum ts * k ≤ 2 ^ 120 → All (λ (t : Term). weight t.coef * k < 2 ^ 127) ts
+pub each_fits : (k : ℕ) (ts : List Term) → coef_sum ts * k ≤ 2 ^ 120 → All (λ (t : Term). positive_part t.coef * k < 2 ^ 127) ts
 each_fits k ts h i d lt = omega (arith, h, mul-le-mul_right k (weight_within ts i d lt))
 
 pub times_fits : (k : ℕ) (ts : List Term) (d : ℕ) → (coef_sum ts * k ≤ 2 ^ 120) × (d * k ≤ 2 ^ 120) → Fits (times k (row_of ts d))
@@ -91,7 +91,7 @@ divided_le k p n m h = elim (cases_lt m (div_ceil n k)) [
 divided_less : (k : ℕ) → 0 < k → (n : ℕ) → div_ceil n k ≤ n
 divided_less k p n = divided_le k p n n (omega (arith, mul-le-mul_left n p))
 
-pub divide_normal : (k : ℕ) (ts : List Term) (d : ℕ) → 0 < k → IsNormal (row_of ts d) → IsNormal (row_of (map (divided k) ts) (div_ceil d k))
+pub divide_normal : (k : ℕ) (ts : List Term) (d : ℕ) → 0 < k → IsWellFormedRow (row_of ts d) → IsWellFormedRow (row_of (map (divided k) ts) (div_ceil d k))
 divide_normal k ts d p r = record {
   rising = reweighed_rising (λ n. div_ceil n k) (divided_positive k p) 0 ts r.rising;
   fits = record {
@@ -103,7 +103,7 @@ divide_normal k ts d p r = record {
 divided_value : (p : Point) (k : ℕ) → 0 < k → (ts : List Term) → true_sum p ts ≤ true_sum p (map (divided k) ts) * k
 divided_value p k q [] = omega arith
 divided_value p k q (t ∷ ts) = elim (cases_Bool (is_true_at p t.lit)) [
-  | inl e ↦ rw e (omega (arith, (div_ceil_times (weight t.coef) k q).0, divided_value p k q ts))
+  | inl e ↦ rw e (omega (arith, (div_ceil_times (positive_part t.coef) k q).0, divided_value p k q ts))
   | inr e ↦ rw e (omega (arith, divided_value p k q ts))
 ]
 
@@ -120,23 +120,23 @@ capped_positive d p n h = omega arith
 all_present : (low : ℕ) (ts : List Term) → IsRisingFrom low ts → filter is_present ts ≡ ts
 all_present low [] r = refl
 all_present low (t ∷ ts) r =
-    let here : nat_lt 0 (weight t.coef) ≡ true = lt-ltb 0 (weight t.coef) (positive_weight t.coef r.1) in
+    let here : nat_lt 0 (positive_part t.coef) ≡ true = lt-ltb 0 (positive_part t.coef) (positive_weight t.coef r.1) in
     rw here (ap (λ (us : List Term). t ∷ us) (all_present (t.lit.var + 1) ts r.2))
 
 none_present : (ts : List Term) → filter is_present (map (capped 0) ts) ≡ []
 none_present [] = refl
 none_present (t ∷ ts) =
-    let none : min (weight t.coef) 0 ≡ 0 = omega arith in
+    let none : min (positive_part t.coef) 0 ≡ 0 = omega arith in
     rw none (none_present ts)
 
 pub saturate_empty : (ts : List Term) (d : ℕ) → d ≡ 0 → row_of [] d ≡ saturate (row_of ts d)
 saturate_empty ts d e = rw e (ap (λ (us : List Term). row_of us 0) (sym (none_present ts)))
 
-pub saturate_is : (ts : List Term) (d : ℕ) → 0 < d → IsNormal (row_of ts d) → row_of (map (capped d) ts) d ≡ saturate (row_of ts d)
+pub saturate_is : (ts : List Term) (d : ℕ) → 0 < d → IsWellFormedRow (row_of ts d) → row_of (map (capped d) ts) d ≡ saturate (row_of ts d)
 saturate_is ts d p r =
     ap (λ (us : List Term). row_of us d) (sym (all_present 0 (map (capped d) ts) (reweighed_rising (λ n. min n d) (capped_positive d p) 0 ts r.rising)))
 
-pub saturate_normal : (ts : List Term) (d : ℕ) → 0 < d → IsNormal (row_of ts d) → IsNormal (row_of (map (capped d) ts) d)
+pub saturate_normal : (ts : List Term) (d : ℕ) → 0 < d → IsWellFormedRow (row_of ts d) → IsWellFormedRow (row_of (map (capped d) ts) d)
 saturate_normal ts d p r = record {
   rising = reweighed_rising (λ n. min n d) (capped_positive d p) 0 ts r.rising;
   fits = record {
@@ -154,10 +154,10 @@ capped_value p d (t ∷ ts) = elim (cases_Bool (is_true_at p t.lit)) [
 
 present_value : (p : Point) (ts : List Term) → true_sum p (filter is_present ts) ≡ true_sum p ts
 present_value p [] = refl
-present_value p (t ∷ ts) = elim (cases_lt 0 (weight t.coef)) [
+present_value p (t ∷ ts) = elim (cases_lt 0 (positive_part t.coef)) [
   | inl h ↦ rw lt-ltb (ap (λ n. share p t + n) (present_value p ts))
   | inr h ↦
-      let none : weight t.coef ≡ 0 = omega arith in
+      let none : positive_part t.coef ≡ 0 = omega arith in
       elim (cases_Bool (is_true_at p t.lit)) [
         | inl e ↦ rw (e, none) (present_value p ts ∙ omega arith)
         | inr e ↦ rw (e, none) (present_value p ts ∙ omega arith)
@@ -185,7 +185,7 @@ weakened_sum v (t ∷ ts) = elim (cases_Bool (is_over v t)) [
   | inr e ↦ rw e (omega (arith, weakened_sum v ts))
 ]
 
-pub weaken_normal : (v : ℕ) (ts : List Term) (d e : ℕ) → e ≤ d → IsNormal (row_of ts d) → IsNormal (row_of (filter (λ t. not (is_over v t)) ts) e)
+pub weaken_normal : (v : ℕ) (ts : List Term) (d e : ℕ) → e ≤ d → IsWellFormedRow (row_of ts d) → IsWellFormedRow (row_of (filter (λ t. not (is_over v t)) ts) e)
 weaken_normal v ts d e h r = record {
   rising = weakened_rising v 0 ts r.rising;
   fits = record { sum = omega (arith, weakened_sum v ts, r.fits.sum); degree = omega (arith, h, r.fits.degree) };

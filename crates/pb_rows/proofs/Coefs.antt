@@ -6,8 +6,8 @@ use Rattle.std.proofs.lemmas.List.{append-nil}
 use Rattle.std.proofs.lemmas.List.Elements.{Contains-append_left, Contains-append_right}
 use Rattle.hrt_base.specs.declared.literal.Lit.{Lit}
 use Rattle.hrt_base.specs.declared.literal.Term.{Term}
-use Rattle.pb_rows.specs.Terms.{PlainRow, is_over, weighing}
-use Rattle.pb_rows.specs.Normal.{gained, joined, negative_part, net, net_term, normal_form, on_opposites, or_zero, var_bound}
+use Rattle.pb_rows.specs.Terms.{PlainRow, is_over, weighing, positive_part}
+use Rattle.pb_rows.specs.Normal.{gained, joined, negative_part, net, net_term, normal_form, on_opposites, var_bound}
 use Rattle.pb_rows.specs.Rows.{add}
 use Rattle.pb_rows.specs.Closure.{Literals, nonfalse_sum}
 
@@ -72,7 +72,7 @@ abbrev pub coef_row : ℕ → (ℕ → ℤ) → ℕ → PlainRow
 coef_row n s d = record { terms = coef_terms n s; degree = d }
 
 pub normal_form-coefs : (n : ℕ) (s : ℕ → ℤ) (ts : List Term) (at_least : ℤ) → var_bound ts ≤ n → ((v : ℕ) → v < n → net v ts ≡ s v) →
-    normal_form ts at_least ≡ coef_row n s (or_zero ((at_least -ℤ on_opposites ts) +ℤ pos (minus_sum n s)))
+    normal_form ts at_least ≡ coef_row n s (positive_part ((at_least -ℤ on_opposites ts) +ℤ pos (minus_sum n s)))
 normal_form-coefs n s ts at_least h e =
     let b : ℕ = var_bound ts in
     let terms : joined b ts ≡ coef_terms n s =
@@ -80,7 +80,7 @@ normal_form-coefs n s ts at_least h e =
     let gain : gained b ts ≡ minus_sum n s =
     gained-coefs b ts ∙ sym (sum-past b n (λ v. negative_part (net v ts)) h (λ v l. ap negative_part (net-past v ts l)))
     ∙ sum_below-same n (λ v. negative_part (net v ts)) (λ v. negative_part (s v)) (λ v l. ap negative_part (e v l)) in
-    ap₂ (λ (us : List Term) (d : ℕ). record { terms = us; degree = d }) terms (ap (λ k. or_zero ((at_least -ℤ on_opposites ts) +ℤ pos k)) gain)
+    ap₂ (λ (us : List Term) (d : ℕ). record { terms = us; degree = d }) terms (ap (λ k. positive_part ((at_least -ℤ on_opposites ts) +ℤ pos k)) gain)
 
 -- ---- nets of lists that are joined, and of such terms
 
@@ -179,7 +179,7 @@ add-coefs n s t u d e k m a b is has deg sums total =
     let degree : (pos (a.degree + b.degree) -ℤ on_opposites (a.terms ++ b.terms)) +ℤ pos (minus_sum n u) ≡ pos m = omega (arith, ints) in
     normal_form-coefs n u (a.terms ++ b.terms) (pos (a.degree + b.degree)) bound
     (λ v l. net-append v a.terms b.terms ∙ ap₂ ◌+ℤ◌ (ap (net v) at ∙ net-coefs v n s l) (has.nets v l) ∙ sums v l)
-    ∙ ap (λ z. coef_row n u (or_zero z)) degree
+    ∙ ap (λ z. coef_row n u (positive_part z)) degree
 
 -- ---- sets of literals
 

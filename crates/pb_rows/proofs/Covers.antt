@@ -7,7 +7,7 @@ use Rattle.std.proofs.lemmas.Bool.{cases_Bool, cases_order}
 use Rattle.std.proofs.lemmas.List.Elements.{All-from_recursion, recursion_from_All}
 use Rattle.hrt_base.specs.declared.literal.Lit.{Lit}
 use Rattle.hrt_base.specs.declared.literal.Term.{Term}
-use Rattle.pb_rows.specs.Terms.{PlainRow, capped, divided, is_over, is_present, opposite_lit, reweighed, scaled, weight}
+use Rattle.pb_rows.specs.Terms.{PlainRow, capped, divided, is_over, is_present, opposite_lit, reweighed, scaled, positive_part}
 use Rattle.pb_rows.specs.Normal.{normal_form}
 use Rattle.pb_rows.specs.Rows.{add, divide, saturate, times, weaken}
 use Rattle.pb_rows.specs.Joined.{are_alike, is_negative, met, put, put_all, remains, signless, signless_all}
@@ -30,8 +30,8 @@ module _ (Q : ℕ → Type 0) where
   met_vars t u h k = elim (cases_Bool (are_alike t u)) [
     | inl e ↦ rw e (k, tt)
     | inr e ↦
-        let x : ℕ = weight u.coef - weight t.coef in
-        let y : ℕ = weight t.coef - weight u.coef in
+        let x : ℕ = positive_part u.coef - positive_part t.coef in
+        let y : ℕ = positive_part t.coef - positive_part u.coef in
         rw e (append_vars (remains x u.lit) (remains y t.lit) (remains_vars x u.lit k) (remains_vars y t.lit h))
   ]
 

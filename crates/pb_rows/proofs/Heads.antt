@@ -3,7 +3,7 @@ use Rattle.std.proofs.Common.{◌≡◌, ◌∙◌, ◌≤◌, ◌<◌, ◌+◌,
 use Rattle.std.proofs.lemmas.Bool.{cases_Bool, cases_order}
 use Rattle.hrt_base.specs.declared.literal.Lit.{Lit}
 use Rattle.hrt_base.specs.declared.literal.Term.{Term}
-use Rattle.pb_rows.specs.Terms.{IsPositive, IsRisingFrom, coef_sum, weighing, weight}
+use Rattle.pb_rows.specs.Terms.{IsPositive, IsRisingFrom, coef_sum, weighing, positive_part}
 use Rattle.pb_rows.specs.Joined.{are_alike, lost, lost_all, lost_between, met, put, put_all, remains}
 use Rattle.pb_rows.proofs.Values.{put_above, put_at, put_below}
 use Rattle.pb_rows.proofs.Order.{met_is, rising_down}
@@ -50,10 +50,10 @@ joins_both t u ts us e p r =
       losses = rw (here.1, here.0, m.is) (omega (arith, rest.losses));
     }
 
-lost_between_le : (t u : Term) → lost_between t u ≤ weight t.coef
+lost_between_le : (t u : Term) → lost_between t u ≤ positive_part t.coef
 lost_between_le t u = elim (cases_Bool (are_alike t u)) [ inl e ↦ rw e (omega arith) | inr e ↦ rw e (omega arith) ]
 
-lost_le : (t : Term) (us : List Term) → lost t us ≤ weight t.coef
+lost_le : (t : Term) (us : List Term) → lost t us ≤ positive_part t.coef
 lost_le t [] = omega arith
 lost_le t (u ∷ us) = elim (cases_order t.lit.var u.lit.var) [
   | inl e ↦ rw (put_at t u us e).1 (lost_between_le t u)

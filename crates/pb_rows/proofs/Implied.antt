@@ -4,7 +4,7 @@ use Rattle.std.proofs.lemmas.Bool.{leb-true}
 use Rattle.std.proofs.lemmas.List.Elements.{All-cons, All-head, All-tail, All-weaker, All-contains, All-contains_itself}
 use Rattle.hrt_base.specs.declared.literal.Lit.{Lit}
 use Rattle.hrt_base.specs.declared.literal.Term.{Term}
-use Rattle.pb_rows.specs.Terms.{PlainRow, opposite_lit, weight}
+use Rattle.pb_rows.specs.Terms.{PlainRow, opposite_lit, positive_part}
 use Rattle.pb_rows.specs.Points.{Point, is_true_at, true_sum}
 use Rattle.pb_rows.specs.Rows.{AllHold, holds, opposite_row}
 use Rattle.pb_rows.specs.Closure.{Implies, IsClosure, IsQuiet, Keeps, Literals, Refuted, none, nonfalse_sum}
@@ -23,7 +23,7 @@ open_step false false c s r e h = absurd (cc)
 
 nonfalse_sum-true_set : (p : Point) (ts : List Term) → nonfalse_sum (true_set p) ts ≡ true_sum p ts
 nonfalse_sum-true_set p [] = refl
-nonfalse_sum-true_set p (t ∷ ts) = open_step (is_true_at p (opposite_lit t.lit)) (is_true_at p t.lit) (weight t.coef) _ _ (opposite_value p t.lit) (nonfalse_sum-true_set p ts)
+nonfalse_sum-true_set p (t ∷ ts) = open_step (is_true_at p (opposite_lit t.lit)) (is_true_at p t.lit) (positive_part t.coef) _ _ (opposite_value p t.lit) (nonfalse_sum-true_set p ts)
 
 settled_step : (a b : Bool) → a ≡ not b → a ≡ false → b ≡ true
 settled_step a true e f = refl

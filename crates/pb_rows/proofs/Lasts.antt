@@ -8,7 +8,7 @@ use Rattle.std.proofs.lemmas.List.{append-nil}
 use Rattle.std.proofs.lemmas.Bool.{cases_order}
 use Rattle.hrt_base.specs.declared.literal.Lit.{Lit}
 use Rattle.hrt_base.specs.declared.literal.Term.{Term}
-use Rattle.pb_rows.specs.Terms.{IsPositive, IsRisingFrom, coef_sum, weight}
+use Rattle.pb_rows.specs.Terms.{IsPositive, IsRisingFrom, coef_sum, positive_part}
 use Rattle.pb_rows.specs.Joined.{AreFrom, AreUpTo, IsSortedCopy, IsSortedFrom, lost, lost_all, lost_between, met, put, put_all, remains}
 use Rattle.pb_rows.proofs.Order.{joined_permuted, met_is, put_rising, put_sum}
 use Rattle.pb_rows.proofs.Sums.{coef_sum-permuted}
@@ -103,7 +103,7 @@ put_up_to high t (u ∷ us) p h a = elim (cases_order t.lit.var u.lit.var) [
 pub joins_next : (ts out : List Term) (gone : ℕ) (left : List Term) (t : Term) (rest : List Term) → left ≡ t ∷ rest → IsJoining ts out gone left → IsJoining ts (put t out) (gone + lost t out) rest
 joins_next ts out gone left t rest e j =
     let s : IsSortedFrom j.low (t ∷ rest) = subst (λ (xs : List Term). IsSortedFrom j.low xs) e j.left_from in
-    let x : coef_sum left ≡ weight t.coef + coef_sum rest = rw e refl in
+    let x : coef_sum left ≡ positive_part t.coef + coef_sum rest = rw e refl in
     record {
       terms = sym (rw e refl) ∙ j.terms;
       losses = omega (arith, j.losses, ap (lost_all out) e);
@@ -115,10 +115,10 @@ joins_next ts out gone left t rest e j =
     }
 
 -- what the last of the list is, under the loop's invariant
-pub next_is : (ts out : List Term) (gone : ℕ) (left : List Term) (t : Term) (rest : List Term) → left ≡ t ∷ rest → IsJoining ts out gone left → AreUpTo t.lit.var out × IsPositive t.coef × (coef_sum out + weight t.coef ≤ 2 ^ 120)
+pub next_is : (ts out : List Term) (gone : ℕ) (left : List Term) (t : Term) (rest : List Term) → left ≡ t ∷ rest → IsJoining ts out gone left → AreUpTo t.lit.var out × IsPositive t.coef × (coef_sum out + positive_part t.coef ≤ 2 ^ 120)
 next_is ts out gone left t rest e j =
     let s : IsSortedFrom j.low (t ∷ rest) = subst (λ (xs : List Term). IsSortedFrom j.low xs) e j.left_from in
-    let x : coef_sum left ≡ weight t.coef + coef_sum rest = rw e refl in
+    let x : coef_sum left ≡ positive_part t.coef + coef_sum rest = rw e refl in
     (up_to_more j.low t.lit.var out s.0 j.out_up_to, s.1, omega (arith, j.fits, x))
 
 -- ---- a sorted copy
@@ -143,7 +143,7 @@ sorted_copy ts us a h s =
 pub record IsLast (u : Term) (us : List Term) (high : ℕ) : Type 0 where
   pub positive : IsPositive u.coef
   pub up_to : u.lit.var ≤ high
-  pub within : weight u.coef ≤ coef_sum us
+  pub within : positive_part u.coef ≤ coef_sum us
 
 last_of : (high low : ℕ) (xs : List Term) (u : Term) → IsRisingFrom low (xs ++ u ∷ []) → AreUpTo high (xs ++ u ∷ []) → IsLast u (xs ++ u ∷ []) high
 last_of high low [] u r a = record { positive = r.1; up_to = a.0; within = omega arith }

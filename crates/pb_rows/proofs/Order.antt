@@ -9,14 +9,14 @@ use Rattle.std.proofs.lemmas.List.Sorted.{sum_by-IsPermutation}
 use Rattle.std.proofs.lemmas.List.{append-nil}
 use Rattle.hrt_base.specs.declared.literal.Lit.{Lit}
 use Rattle.hrt_base.specs.declared.literal.Term.{Term}
-use Rattle.pb_rows.specs.Terms.{IsPositive, IsRisingFrom, coef_sum, weighing, weight}
+use Rattle.pb_rows.specs.Terms.{IsPositive, IsRisingFrom, coef_sum, weighing, positive_part}
 use Rattle.pb_rows.specs.Points.{Point, share, true_sum}
 use Rattle.pb_rows.specs.Joined.{AreFrom, are_alike, lost_all, met, put, put_all, remains}
 use Rattle.pb_rows.proofs.Values.{put_above, put_at, put_below, put_all_value}
 
 -- ---- coefficients
 
-pub positive_weight : (z : ℤ) → IsPositive z → 0 < weight z
+pub positive_weight : (z : ℤ) → IsPositive z → 0 < positive_part z
 positive_weight (pos n) h = h
 positive_weight (negsuc n) h = absurd h
 
@@ -38,7 +38,7 @@ pub record IsMet (t u : Term) : Type 0 where
   pub lit : Lit
   pub var : lit.var ≡ u.lit.var
   pub is : met t u ≡ remains size lit
-  pub within : size ≤ weight t.coef + weight u.coef
+  pub within : size ≤ positive_part t.coef + positive_part u.coef
 
 remains_positive : (n : ℕ) (l : Lit) → 0 < n → weighing n l ∷ [] ≡ remains n l
 remains_positive zero l h = absurd (omega arith)
@@ -47,32 +47,32 @@ remains_positive (suc n) l h = refl
 pub met_is : (t u : Term) → t.lit.var ≡ u.lit.var → IsPositive t.coef → IsMet t u
 met_is t u e p = elim (cases_Bool (are_alike t u)) [
   | inl alike ↦ record {
-    size = weight t.coef + weight u.coef;
+    size = positive_part t.coef + positive_part u.coef;
     lit = u.lit;
     var = refl;
-    is = rw alike (remains_positive (weight t.coef + weight u.coef) u.lit (omega (arith, positive_weight t.coef p)));
+    is = rw alike (remains_positive (positive_part t.coef + positive_part u.coef) u.lit (omega (arith, positive_weight t.coef p)));
     within = omega arith;
   }
-  | inr apart ↦ elim (cases_order (weight t.coef) (weight u.coef)) [
+  | inr apart ↦ elim (cases_order (positive_part t.coef) (positive_part u.coef)) [
     | inl same ↦ record {
       size = 0;
       lit = u.lit;
       var = refl;
-      is = rw apart (let x : weight u.coef - weight t.coef ≡ 0 = omega arith in let y : weight t.coef - weight u.coef ≡ 0 = omega arith in rw (x, y) refl);
+      is = rw apart (let x : positive_part u.coef - positive_part t.coef ≡ 0 = omega arith in let y : positive_part t.coef - positive_part u.coef ≡ 0 = omega arith in rw (x, y) refl);
       within = omega arith;
     }
     | inr (inl less) ↦ record {
-      size = weight u.coef - weight t.coef;
+      size = positive_part u.coef - positive_part t.coef;
       lit = u.lit;
       var = refl;
-      is = rw apart (let y : weight t.coef - weight u.coef ≡ 0 = omega arith in rw y (append-nil (remains (weight u.coef - weight t.coef) u.lit)));
+      is = rw apart (let y : positive_part t.coef - positive_part u.coef ≡ 0 = omega arith in rw y (append-nil (remains (positive_part u.coef - positive_part t.coef) u.lit)));
       within = omega arith;
     }
     | inr (inr more) ↦ record {
-      size = weight t.coef - weight u.coef;
+      size = positive_part t.coef - positive_part u.coef;
       lit = t.lit;
       var = e;
-      is = rw apart (let x : weight u.coef - weight t.coef ≡ 0 = omega arith in rw x refl);
+      is = rw apart (let x : positive_part u.coef - positive_part t.coef ≡ 0 = omega arith in rw x refl);
       within = omega arith;
     }
   ]
@@ -119,7 +119,7 @@ pub coef_sum-remains : (n : ℕ) (l : Lit) → coef_sum (remains n l) ≡ n
 coef_sum-remains zero l = refl
 coef_sum-remains (suc n) l = omega arith
 
-pub put_sum : (t : Term) (us : List Term) → IsPositive t.coef → coef_sum (put t us) ≤ weight t.coef + coef_sum us
+pub put_sum : (t : Term) (us : List Term) → IsPositive t.coef → coef_sum (put t us) ≤ positive_part t.coef + coef_sum us
 put_sum t [] p = omega arith
 put_sum t (u ∷ us) p = elim (cases_order t.lit.var u.lit.var) [
   | inl e ↦ let m = met_is t u e p in rw ((put_at t u us e).0, m.is, coef_sum-append (remains m.size m.lit) us, coef_sum-remains m.size m.lit) (omega (arith, m.within))
@@ -146,10 +146,10 @@ at_above v b p low (t ∷ ts) h r =
 abbrev signed_share : Bool → Bool → ℕ → ℕ
 signed_share m b n = if (if m then not b else b) then n else 0
 
-at_head : (t : Term) (ts : List Term) (v : ℕ) (b : Bool) (p : Point) → t.lit.var ≡ v → IsRisingFrom (t.lit.var + 1) ts → true_sum (at v b p) (t ∷ ts) ≡ signed_share t.lit.neg b (weight t.coef) + true_sum p ts
+at_head : (t : Term) (ts : List Term) (v : ℕ) (b : Bool) (p : Point) → t.lit.var ≡ v → IsRisingFrom (t.lit.var + 1) ts → true_sum (at v b p) (t ∷ ts) ≡ signed_share t.lit.neg b (positive_part t.coef) + true_sum p ts
 at_head t ts v b p e r =
     let here : (t.lit.var == v) ≡ true = eq-eqb t.lit.var v e in
-    rw here (ap (λ n. signed_share t.lit.neg b (weight t.coef) + n) (at_above v b p (t.lit.var + 1) ts (omega (arith, e)) r))
+    rw here (ap (λ n. signed_share t.lit.neg b (positive_part t.coef) + n) (at_above v b p (t.lit.var + 1) ts (omega (arith, e)) r))
 
 -- a head that the other list lacks is worth nothing
 no_head : (m : Bool) (x a b k j : ℕ) → 0 < x → signed_share m true x + a + k ≡ b + j → signed_share m false x + a + k ≡ b + j → ⊥
@@ -170,25 +170,25 @@ same_head false true x y a b k j h i e f = absurd (omega arith)
 term : ℤ → ℕ → Bool → Term
 term a v n = record { coef = a; lit = record { var = v; neg = n } }
 
-same_term : (a b : ℤ) (v w : ℕ) (m n : Bool) → IsPositive a → IsPositive b → weight a ≡ weight b → v ≡ w → m ≡ n → term a v m ≡ term b w n
+same_term : (a b : ℤ) (v w : ℕ) (m n : Bool) → IsPositive a → IsPositive b → positive_part a ≡ positive_part b → v ≡ w → m ≡ n → term a v m ≡ term b w n
 same_term (pos x) (pos y) v w m n h i e f g = rw (e, f, g) refl
 same_term (pos x) (negsuc y) v w m n h i e f g = absurd i
 same_term (negsuc x) b v w m n h i e f g = absurd h
 
-pub same_terms : (t u : Term) → IsPositive t.coef → IsPositive u.coef → weight t.coef ≡ weight u.coef → t.lit.var ≡ u.lit.var → t.lit.neg ≡ u.lit.neg → t ≡ u
+pub same_terms : (t u : Term) → IsPositive t.coef → IsPositive u.coef → positive_part t.coef ≡ positive_part u.coef → t.lit.var ≡ u.lit.var → t.lit.neg ≡ u.lit.neg → t ≡ u
 unfolding term
 same_terms t u h i e f g = same_term t.coef u.coef t.lit.var u.lit.var t.lit.neg u.lit.neg h i e f g
 
 lonely : (t : Term) (ts us : List Term) (high k j : ℕ) → IsPositive t.coef → IsRisingFrom (t.lit.var + 1) ts → IsRisingFrom high us → t.lit.var < high → ((p : Point) → true_sum p (t ∷ ts) + k ≡ true_sum p us + j) → ⊥
 lonely t ts us high k j pt r s less h =
     let q : Point = λ _. true in
-    no_head t.lit.neg (weight t.coef) (true_sum q ts) (true_sum q us) k j (positive_weight t.coef pt)
+    no_head t.lit.neg (positive_part t.coef) (true_sum q ts) (true_sum q us) k j (positive_weight t.coef pt)
     (omega (arith, h (at t.lit.var true q), at_head t ts t.lit.var true q refl r, at_above t.lit.var true q high us less s))
     (omega (arith, h (at t.lit.var false q), at_head t ts t.lit.var false q refl r, at_above t.lit.var false q high us less s))
 
-paired : (t u : Term) (ts us : List Term) (k j : ℕ) → IsPositive t.coef → IsPositive u.coef → IsRisingFrom (t.lit.var + 1) ts → IsRisingFrom (u.lit.var + 1) us → t.lit.var ≡ u.lit.var → ((p : Point) → true_sum p (t ∷ ts) + k ≡ true_sum p (u ∷ us) + j) → (p : Point) → SameHead t.lit.neg u.lit.neg (weight t.coef) (weight u.coef) (true_sum p ts) (true_sum p us) k j
+paired : (t u : Term) (ts us : List Term) (k j : ℕ) → IsPositive t.coef → IsPositive u.coef → IsRisingFrom (t.lit.var + 1) ts → IsRisingFrom (u.lit.var + 1) us → t.lit.var ≡ u.lit.var → ((p : Point) → true_sum p (t ∷ ts) + k ≡ true_sum p (u ∷ us) + j) → (p : Point) → SameHead t.lit.neg u.lit.neg (positive_part t.coef) (positive_part u.coef) (true_sum p ts) (true_sum p us) k j
 paired t u ts us k j pt pu r s e h p =
-    same_head t.lit.neg u.lit.neg (weight t.coef) (weight u.coef) (true_sum p ts) (true_sum p us) k j (positive_weight t.coef pt) (positive_weight u.coef pu)
+    same_head t.lit.neg u.lit.neg (positive_part t.coef) (positive_part u.coef) (true_sum p ts) (true_sum p us) k j (positive_weight t.coef pt) (positive_weight u.coef pu)
     (omega (arith, h (at u.lit.var true p), at_head t ts u.lit.var true p e r, at_head u us u.lit.var true p refl s))
     (omega (arith, h (at u.lit.var false p), at_head t ts u.lit.var false p e r, at_head u us u.lit.var false p refl s))
 

@@ -11,9 +11,9 @@ use Rattle.std.proofs.lemmas.List.Recursion.{is_sum_by}
 use Rattle.std.proofs.lemmas.List.Sums.{sum_by_more, sum_by_more_le, sum_by-take-le}
 use Rattle.hrt_base.specs.declared.literal.Lit.{Lit}
 use Rattle.hrt_base.specs.declared.literal.Term.{Term}
-use Rattle.pb_rows.specs.Terms.{coef_sum, opposite_lit, weighing}
+use Rattle.pb_rows.specs.Terms.{coef_sum, opposite_lit, weighing, positive_part}
 use Rattle.pb_rows.specs.Points.{Point, is_true_at, share, signed_share, true_sum, value_at}
-use Rattle.pb_rows.specs.Normal.{all_sizes, or_zero, sizes}
+use Rattle.pb_rows.specs.Normal.{all_sizes, sizes}
 use Rattle.pb_rows.specs.Joined.{AreFrom, is_negative, remains, signless, signless_all, signless_lit, turned, turned_sum}
 use Rattle.pb_rows.proofs.Order.{coef_sum-append, coef_sum-remains}
 use Rattle.pb_rows.proofs.Values.{remains_value, true_sum-append}
@@ -108,19 +108,19 @@ signless_values p (t ∷ ts) =
     rw (true_sum-append p (signless t) (signless_all ts), remains_value p (unsigned_abs t.coef) (signless_lit t))
     (omega (arith, ints, signless_value p t, signless_values p ts))
 
-or_zero_reaches : (z : ℤ) (n : ℕ) → (or_zero z ≤ n → z ≤ℤ pos n) × (z ≤ℤ pos n → or_zero z ≤ n)
-or_zero_reaches (pos m) n = (λ h. omega (arith, ints, h), λ h. omega (arith, ints, h))
-or_zero_reaches (negsuc m) n = (λ h. omega (arith, ints), λ h. omega arith)
+positive_part_reaches : (z : ℤ) (n : ℕ) → (positive_part z ≤ n → z ≤ℤ pos n) × (z ≤ℤ pos n → positive_part z ≤ n)
+positive_part_reaches (pos m) n = (λ h. omega (arith, ints, h), λ h. omega (arith, ints, h))
+positive_part_reaches (negsuc m) n = (λ h. omega (arith, ints), λ h. omega arith)
 
 with_abs : (z : ℤ) (n : ℕ) → (z +ℤ pos n) ≤ℤ pos (unsigned_abs z + n)
 with_abs (pos m) n = omega (arith, ints)
 with_abs (negsuc m) n = omega (arith, ints)
 
-pub or_zero_le : (z : ℤ) (n : ℕ) → or_zero (z +ℤ pos n) ≤ unsigned_abs z + n
-or_zero_le z n = (or_zero_reaches (z +ℤ pos n) (unsigned_abs z + n)).1 (with_abs z n)
+pub positive_part_le : (z : ℤ) (n : ℕ) → positive_part (z +ℤ pos n) ≤ unsigned_abs z + n
+positive_part_le z n = (positive_part_reaches (z +ℤ pos n) (unsigned_abs z + n)).1 (with_abs z n)
 
-pub or_zero_passed : (z : ℤ) (n : ℕ) → SFits w128 z → or_zero (to_z w128 (of_z w128 z) +ℤ pos n) ≡ or_zero (z +ℤ pos n)
-or_zero_passed z n h = ap (λ (x : ℤ). or_zero (x +ℤ pos n)) (to_z-of_z w128 z h)
+pub positive_part_passed : (z : ℤ) (n : ℕ) → SFits w128 z → positive_part (to_z w128 (of_z w128 z) +ℤ pos n) ≡ positive_part (z +ℤ pos n)
+positive_part_passed z n h = ap (λ (x : ℤ). positive_part (x +ℤ pos n)) (to_z-of_z w128 z h)
 
 pub sizes_passed : (ts : List Term) (z : ℤ) → SFits w128 z → all_sizes ts (to_z w128 (of_z w128 z)) ≡ all_sizes ts z
 sizes_passed ts z h = ap (all_sizes ts) (to_z-of_z w128 z h)

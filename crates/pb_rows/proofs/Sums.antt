@@ -7,18 +7,18 @@ use Rattle.std.proofs.lemmas.List.Sums.{sum_by_more_le, sum_by_more, sum_by-take
 use Rattle.std.proofs.lemmas.List.Sorted.{sum_by-IsPermutation}
 use Rattle.std.proofs.lemmas.List.Recursion.{is_sum_by}
 use Rattle.hrt_base.specs.declared.literal.Term.{Term}
-use Rattle.pb_rows.specs.Terms.{coef_sum, is_over, opposite_lit, part_over, weight, weight_over}
+use Rattle.pb_rows.specs.Terms.{coef_sum, is_over, opposite_lit, part_over, positive_part, weight_over}
 use Rattle.pb_rows.specs.Points.{Point, is_true_at, share, true_sum}
 use Rattle.pb_rows.specs.Closure.{Literals, nonfalse_share, nonfalse_sum}
 
-coef_sum_is : (ts : List Term) → coef_sum ts ≡ sum_by (λ (t : Term). weight t.coef) ts
-coef_sum_is = is_sum_by coef_sum (λ (t : Term). weight t.coef) refl (λ t ts. refl)
+coef_sum_is : (ts : List Term) → coef_sum ts ≡ sum_by (λ (t : Term). positive_part t.coef) ts
+coef_sum_is = is_sum_by coef_sum (λ (t : Term). positive_part t.coef) refl (λ t ts. refl)
 
-pub coef_sum_more : (ts : List Term) (i : ℕ) (d : Term) → i < length ts → coef_sum (take (i + 1) ts) ≡ coef_sum (take i ts) + weight (get_or ts i d).coef
-coef_sum_more ts i d h = rw (coef_sum_is (take (i + 1) ts), coef_sum_is (take i ts)) (sum_by_more (λ (t : Term). weight t.coef) ts i d h)
+pub coef_sum_more : (ts : List Term) (i : ℕ) (d : Term) → i < length ts → coef_sum (take (i + 1) ts) ≡ coef_sum (take i ts) + positive_part (get_or ts i d).coef
+coef_sum_more ts i d h = rw (coef_sum_is (take (i + 1) ts), coef_sum_is (take i ts)) (sum_by_more (λ (t : Term). positive_part t.coef) ts i d h)
 
-pub coef_sum_more_le : (ts : List Term) (i : ℕ) (d : Term) → i < length ts → coef_sum (take i ts) + weight (get_or ts i d).coef ≤ coef_sum ts
-coef_sum_more_le ts i d h = rw (coef_sum_is (take i ts), coef_sum_is ts) (sum_by_more_le (λ (t : Term). weight t.coef) ts i d h)
+pub coef_sum_more_le : (ts : List Term) (i : ℕ) (d : Term) → i < length ts → coef_sum (take i ts) + positive_part (get_or ts i d).coef ≤ coef_sum ts
+coef_sum_more_le ts i d h = rw (coef_sum_is (take i ts), coef_sum_is ts) (sum_by_more_le (λ (t : Term). positive_part t.coef) ts i d h)
 
 weight_over_is : (v : ℕ) (ts : List Term) → weight_over v ts ≡ sum_by (part_over v) ts
 weight_over_is v = is_sum_by (weight_over v) (part_over v) refl (λ t ts. refl)
@@ -63,4 +63,4 @@ pub nonfalse_sum_more_all : (s : Literals) (ts : List Term) (i : ℕ) → nonfal
 nonfalse_sum_more_all s ts i = rw (nonfalse_sum_is s (take i ts), nonfalse_sum_is s ts) (sum_by-take-le (nonfalse_share s) ts i)
 
 pub coef_sum-permuted : (ts us : List Term) → IsPermutation ts us → coef_sum us ≡ coef_sum ts
-coef_sum-permuted ts us h = coef_sum_is us ∙ sum_by-IsPermutation (λ (t : Term). weight t.coef) ts us h ∙ sym (coef_sum_is ts)
+coef_sum-permuted ts us h = coef_sum_is us ∙ sum_by-IsPermutation (λ (t : Term). positive_part t.coef) ts us h ∙ sym (coef_sum_is ts)

@@ -3,7 +3,7 @@ use Rattle.std.proofs.Common.{◌≡◌, ◌≤◌, ◌<◌, ◌+◌, ◌-◌, i
 use Rattle.std.proofs.lemmas.Bool.{cases_Bool, cases_order, lt-ltb, le-ltb}
 use Rattle.hrt_base.specs.declared.literal.Lit.{Lit}
 use Rattle.hrt_base.specs.declared.literal.Term.{Term}
-use Rattle.pb_rows.specs.Terms.{weighing, weight}
+use Rattle.pb_rows.specs.Terms.{weighing, positive_part}
 use Rattle.pb_rows.specs.Points.{Point, is_true_at, share, true_sum}
 use Rattle.pb_rows.specs.Joined.{lost, lost_all, lost_between, met, put, put_all, remains}
 
@@ -30,12 +30,12 @@ met_at p a b v false false = elim (cases_Bool (p v)) [ inl e ↦ rw e (omega ari
 met_at p a b v true false =
     let x : Lit = record { var = v; neg = false } in
     let y : Lit = record { var = v; neg = true } in
-    rw (true_sum-append p (remains (weight b - weight a) x) (remains (weight a - weight b) y), remains_value p (weight b - weight a) x, remains_value p (weight a - weight b) y)
+    rw (true_sum-append p (remains (positive_part b - positive_part a) x) (remains (positive_part a - positive_part b) y), remains_value p (positive_part b - positive_part a) x, remains_value p (positive_part a - positive_part b) y)
     (elim (cases_Bool (p v)) [ inl e ↦ rw e (omega arith) | inr e ↦ rw e (omega arith) ])
 met_at p a b v false true =
     let x : Lit = record { var = v; neg = true } in
     let y : Lit = record { var = v; neg = false } in
-    rw (true_sum-append p (remains (weight b - weight a) x) (remains (weight a - weight b) y), remains_value p (weight b - weight a) x, remains_value p (weight a - weight b) y)
+    rw (true_sum-append p (remains (positive_part b - positive_part a) x) (remains (positive_part a - positive_part b) y), remains_value p (positive_part b - positive_part a) x, remains_value p (positive_part a - positive_part b) y)
     (elim (cases_Bool (p v)) [ inl e ↦ rw e (omega arith) | inr e ↦ rw e (omega arith) ])
 
 pub met_value : (p : Point) (t u : Term) → t.lit.var ≡ u.lit.var → true_sum p (met t u) + lost_between t u ≡ share p t + share p u

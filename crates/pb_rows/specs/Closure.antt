@@ -5,7 +5,7 @@ use Rattle.hrt_base.specs.declared.literal.Lit.{Lit}
 use Rattle.hrt_base.specs.declared.literal.Term.{Term}
 use Rattle.hrt_base.specs.declared.literal.Value.{Value}
 use Rattle.hrt_base.specs.declared.literal.Value.TheVariants.{False, Free, True}
-use Rattle.pb_rows.specs.Terms.{PlainRow, opposite_lit, weight}
+use Rattle.pb_rows.specs.Terms.{PlainRow, opposite_lit, positive_part}
 use Rattle.pb_rows.specs.Rows.{opposite_row}
 
 -- a set of literals: whether each literal is in it
@@ -39,7 +39,7 @@ literals_of values l = makes_true (slice_index_or values (l.var - 1) Free) l.neg
 -- the coefficient, where it isn't negative, of a term whose literal isn't false, else 0; a literal is false where its opposite
 -- is in the set
 abbrev pub nonfalse_share : Literals → Term → ℕ
-nonfalse_share set t = if set (opposite_lit t.lit) then 0 else weight t.coef
+nonfalse_share set t = if set (opposite_lit t.lit) then 0 else positive_part t.coef
 
 -- the sum of the coefficients of the literals that aren't false
 abbrev pub nonfalse_sum : Literals → List Term → ℕ
@@ -57,13 +57,13 @@ Falsified set r = nonfalse_sum set r.terms < r.degree
 -- the term's literal is neither true nor false, and its coefficient exceeds the slack
 pub record Propagates (set : Literals) (r : PlainRow) (t : Term) : Type 0 where
   pub free : IsTrue (not (set t.lit) && not (set (opposite_lit t.lit)))
-  pub exceeds : nonfalse_sum set r.terms < r.degree + weight t.coef
+  pub exceeds : nonfalse_sum set r.terms < r.degree + positive_part t.coef
 
 -- ---- quiet sets
 
 -- the term's literal is in the set, unless it is false or its coefficient is at most the slack
 abbrev pub IsSettled : Literals → PlainRow → Term → Type 0
-IsSettled set r t = IsFalse (set (opposite_lit t.lit)) → nonfalse_sum set r.terms < r.degree + weight t.coef → IsTrue (set t.lit)
+IsSettled set r t = IsFalse (set (opposite_lit t.lit)) → nonfalse_sum set r.terms < r.degree + positive_part t.coef → IsTrue (set t.lit)
 
 -- the row isn't falsified under the set, which holds every literal that the row propagates
 pub record Keeps (set : Literals) (r : PlainRow) : Type 0 where

@@ -6,8 +6,7 @@ use Rattle.std.specs.Int.RustNames.{unsigned_abs}
 use Rattle.hrt_base.specs.declared.literal.Lit.{Lit}
 use Rattle.hrt_base.specs.declared.literal.Term.{Term}
 use Rattle.pb_rows.specs.declared.join.Joined.{Joined}
-use Rattle.pb_rows.specs.Terms.{IsPositive, PlainRow, coef_sum, opposite_lit, weighing, weight}
-use Rattle.pb_rows.specs.Normal.{or_zero}
+use Rattle.pb_rows.specs.Terms.{IsPositive, PlainRow, coef_sum, opposite_lit, weighing, positive_part}
 
 -- ---- signs: `-a x` is `a ~x - a`
 
@@ -56,12 +55,12 @@ are_alike t u = same_sign t.lit.neg u.lit.neg
 -- what stays of two terms over one variable
 abbrev pub met : Term → Term → List Term
 met t u =
-    if are_alike t u then weighing (weight t.coef + weight u.coef) u.lit ∷ []
-    else (remains (weight u.coef - weight t.coef) u.lit ++ remains (weight t.coef - weight u.coef) t.lit)
+    if are_alike t u then weighing (positive_part t.coef + positive_part u.coef) u.lit ∷ []
+    else (remains (positive_part u.coef - positive_part t.coef) u.lit ++ remains (positive_part t.coef - positive_part u.coef) t.lit)
 
 -- what they lose: of `a x` and `b ~x` the smaller of a and b is true at every point
 abbrev pub lost_between : Term → Term → ℕ
-lost_between t u = if are_alike t u then 0 else min (weight t.coef) (weight u.coef)
+lost_between t u = if are_alike t u then 0 else min (positive_part t.coef) (positive_part u.coef)
 
 -- the list with one more term in its place, joined with the term over its variable if there is one
 abbrev pub put : Term → List Term → List Term
@@ -93,7 +92,7 @@ lost_all us (t ∷ ts) = lost t us + lost_all (put t us) ts
 abbrev pub joined_form : List Term → ℤ → PlainRow
 joined_form terms at_least = record {
   terms = put_all [] (signless_all terms);
-  degree = or_zero (at_least +ℤ pos (turned_sum terms)) - lost_all [] (signless_all terms);
+  degree = positive_part (at_least +ℤ pos (turned_sum terms)) - lost_all [] (signless_all terms);
 }
 
 -- the sum of two rows as joining makes it: the terms of b are put into those of a, and the degree loses what they lose

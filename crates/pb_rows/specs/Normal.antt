@@ -2,7 +2,7 @@
 use Rattle.std.specs.Prelude.{ℕ, zero, suc, ◌+◌, max, ℤ, pos, negsuc, neg_ℤ, ◌+ℤ◌, ◌-ℤ◌, true, false, if◌then◌else◌, List, [], ◌∷◌, ◌++◌}
 use Rattle.std.specs.Int.RustNames.{unsigned_abs}
 use Rattle.hrt_base.specs.declared.literal.Term.{Term}
-use Rattle.pb_rows.specs.Terms.{PlainRow, is_over, weighing}
+use Rattle.pb_rows.specs.Terms.{PlainRow, is_over, positive_part, weighing}
 
 -- ---- the net coefficient of each variable
 
@@ -42,16 +42,11 @@ abbrev pub var_bound : List Term → ℕ
 var_bound [] = 0
 var_bound (t ∷ ts) = max (suc t.lit.var) (var_bound ts)
 
--- a degree below 0 becomes 0
-abbrev pub or_zero : ℤ → ℕ
-or_zero (pos n) = n
-or_zero (negsuc n) = 0
-
 -- the row in normal form that says that the terms sum to at least the number
 abbrev pub normal_form : List Term → ℤ → PlainRow
 normal_form terms at_least = record {
   terms = joined (var_bound terms) terms;
-  degree = or_zero ((at_least -ℤ on_opposites terms) +ℤ pos (gained (var_bound terms) terms));
+  degree = positive_part ((at_least -ℤ on_opposites terms) +ℤ pos (gained (var_bound terms) terms));
 }
 
 -- ---- sizes

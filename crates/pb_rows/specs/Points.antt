@@ -2,7 +2,7 @@
 use Rattle.std.specs.Prelude.{◌≤◌, ◌<◌, ◌+◌, ◌-◌, ℕ, ℤ, pos, ◌+ℤ◌, Bool, false, not, if◌then◌else◌, List, [], ◌∷◌, slice_index_or}
 use Rattle.hrt_base.specs.declared.literal.Lit.{Lit}
 use Rattle.hrt_base.specs.declared.literal.Term.{Term}
-use Rattle.pb_rows.specs.Terms.{weight}
+use Rattle.pb_rows.specs.Terms.{positive_part}
 
 -- A point gives each variable a value.
 abbrev pub Point : Type 0
@@ -14,7 +14,7 @@ is_true_at p l = if l.neg then not (p l.var) else p l.var
 
 -- the coefficient, where it isn't negative, of a term whose literal is true, else 0
 abbrev pub share : Point → Term → ℕ
-share p t = if is_true_at p t.lit then weight t.coef else 0
+share p t = if is_true_at p t.lit then positive_part t.coef else 0
 
 -- the sum of the coefficients of the true literals
 abbrev pub true_sum : Point → List Term → ℕ

@@ -80,6 +80,6 @@ pub record Fits (r : PlainRow) : Type 0 where
   pub degree : r.degree ≤ 2 ^ 120
 
 -- what every row keeps: positive coefficients, rising variables, and that it fits
-pub record IsNormal (r : PlainRow) : Type 0 where
+pub record IsWellFormedRow (r : PlainRow) : Type 0 where
   pub rising : IsRisingFrom 0 r.terms
   pub fits : Fits r

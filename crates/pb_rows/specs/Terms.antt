@@ -25,10 +25,10 @@ abbrev pub IsPositive : ℤ → Type 0
 IsPositive (pos n) = 0 < n
 IsPositive (negsuc n) = ⊥
 
--- a coefficient that isn't negative as it is, and 0 for a negative one
-abbrev pub weight : ℤ → ℕ
-weight (pos n) = n
-weight (negsuc n) = 0
+-- a number that is not negative as it is, and 0 for a negative one
+abbrev pub positive_part : ℤ → ℕ
+positive_part (pos n) = n
+positive_part (negsuc n) = 0
 
 -- the term of a literal with a coefficient that isn't negative
 abbrev pub weighing : ℕ → Lit → Term
@@ -37,7 +37,7 @@ weighing n l = record { coef = pos n; lit = l }
 -- the sum of the coefficients that aren't negative
 abbrev pub coef_sum : List Term → ℕ
 coef_sum [] = 0
-coef_sum (t ∷ ts) = weight t.coef + coef_sum ts
+coef_sum (t ∷ ts) = positive_part t.coef + coef_sum ts
 
 -- positive coefficients, and variables that rise from `low` on
 abbrev pub IsRisingFrom : ℕ → List Term → Type 0
@@ -48,7 +48,7 @@ IsRisingFrom low (t ∷ ts) = (low ≤ t.lit.var) × IsPositive t.coef × IsRisi
 
 -- the term with its coefficient changed by f, its literal as it was
 abbrev pub reweighed : (ℕ → ℕ) → Term → Term
-reweighed f t = weighing (f (weight t.coef)) t.lit
+reweighed f t = weighing (f (positive_part t.coef)) t.lit
 
 -- the term with its coefficient multiplied by k
 abbrev pub scaled : ℕ → Term → Term
@@ -64,7 +64,7 @@ capped most = reweighed (λ w. min w most)
 
 -- whether the coefficient is above 0
 abbrev pub is_present : Term → Bool
-is_present t = nat_lt 0 (weight t.coef)
+is_present t = nat_lt 0 (positive_part t.coef)
 
 -- the term with the same coefficient on the opposite literal
 abbrev pub negated : Term → Term
@@ -78,7 +78,7 @@ is_over v t = t.lit.var == v
 
 -- the coefficient, where it isn't negative, of a term over v, else 0
 abbrev pub part_over : ℕ → Term → ℕ
-part_over v t = if is_over v t then weight t.coef else 0
+part_over v t = if is_over v t then positive_part t.coef else 0
 
 -- the coefficient of a variable, or 0
 abbrev pub weight_over : ℕ → List Term → ℕ

@@ -1,6 +1,6 @@
 // Joining terms over one variable.
 ghost use Rattle.std.specs.Prelude.{◌≡◌, ◌<◌, ◌≤◌, ◌+◌, ◌^◌, ◌++◌, IfOk, MatchOption, [], ◌∷◌};
-ghost use Rattle.pb_rows.specs.Terms.{IsPositive, IsRisingFrom, coef_sum, weight};
+ghost use Rattle.pb_rows.specs.Terms.{IsPositive, IsRisingFrom, coef_sum, positive_part};
 ghost use Rattle.pb_rows.specs.Joined.{AreFrom, AreUpTo, IsJoinOf, IsSortedCopy, IsSortedFrom, MeetsTo, PutsTo, are_alike, lost_all, lost_between, met, remains};
 
 use crate::terms::{weighing, weight_of};
@@ -49,7 +49,7 @@ fn lost_between(t: Term, u: Term) -> u128
 fn meet(terms: &mut Vec<Term>, t: Term, u: Term) -> Result<u128, AllocError>
     requires first { IsPositive t.coef }
     requires second { IsPositive u.coef }
-    requires fits { weight t.coef + weight u.coef < 2 ^ 127 }
+    requires fits { positive_part t.coef + positive_part u.coef < 2 ^ 127 }
     ensures { IfOk result (MeetsTo t u terms.old.items terms.new.items) }
 {
     let x = weight_of(t);
@@ -140,7 +140,7 @@ fn put_last(terms: &mut Vec<Term>, t: Term) -> Result<u128, AllocError>
     requires rising { IsRisingFrom 0 terms.old.items }
     requires last { AreUpTo t.lit.var terms.old.items }
     requires positive { IsPositive t.coef }
-    requires fits { coef_sum terms.old.items + weight t.coef ≤ 2 ^ 120 }
+    requires fits { coef_sum terms.old.items + positive_part t.coef ≤ 2 ^ 120 }
     ensures { IfOk result (PutsTo t terms.old.items terms.new.items) }
 {
     match terms.pop() {

@@ -1,8 +1,8 @@
 // Terms without signs.
 ghost use Rattle.std.specs.Prelude.{◌≡◌, ◌<◌, ◌≤◌, ◌+◌, ◌^◌, ◌++◌, ◌↔◌, ◌+ℤ◌, pos, IfOk, IsTrue};
 ghost use Rattle.std.specs.Int.RustNames.{unsigned_abs};
-ghost use Rattle.pb_rows.specs.Terms.{opposite_lit};
-ghost use Rattle.pb_rows.specs.Normal.{all_sizes, or_zero, sizes};
+ghost use Rattle.pb_rows.specs.Terms.{opposite_lit, positive_part};
+ghost use Rattle.pb_rows.specs.Normal.{all_sizes, sizes};
 ghost use Rattle.pb_rows.specs.Joined.{is_negative, signless, signless_all, signless_lit, turned, turned_sum};
 
 use crate::MOST;
@@ -103,7 +103,7 @@ pub(crate) fn turned_total(terms: &[Term]) -> u128
 /// The sum of a number and what was turned, or 0.
 pub(crate) fn or_zero(at_least: i128, turned: u128) -> u128
     requires { unsigned_abs at_least + turned ≤ 2 ^ 120 }
-    ensures { result ≡ or_zero (at_least +ℤ pos turned) }
+    ensures { result ≡ positive_part (at_least +ℤ pos turned) }
 {
     if at_least < 0 {
         turned.saturating_sub(at_least.unsigned_abs())

@@ -3,10 +3,10 @@
 
 ghost use Rattle.std.specs.Prelude.{◌≡◌, ◌<◌, ◌≤◌, ◌+◌, ◌*◌, ◌^◌, ◌++◌, pos, OnOk, OnErr, IsOk, IfErr, IfOk, ◌↔◌, IsTrue, not, length};
 ghost use Rattle.std.specs.List.{All};
-ghost use Rattle.pb_rows.specs.Terms.{IsPositive, coef_sum, weight};
+ghost use Rattle.pb_rows.specs.Terms.{IsPositive, coef_sum, positive_part};
 ghost use Rattle.pb_rows.specs.Points.{IsCovered, point_of};
 ghost use Rattle.pb_rows.specs.Normal.{all_sizes, normal_form};
-ghost use Rattle.pb_rows.specs.Rows.{AddsValues, Fits, HoldsAfter, HoldsElsewhere, HoldsWhere, HoldsWithBoth, IsNormal, add, divide, holds, opposite_row, saturate, times, weaken};
+ghost use Rattle.pb_rows.specs.Rows.{AddsValues, Fits, HoldsAfter, HoldsElsewhere, HoldsWhere, HoldsWithBoth, IsWellFormedRow, add, divide, holds, opposite_row, saturate, times, weaken};
 ghost use Rattle.pb_rows.specs.Closure.{literals_of, slack};
 
 use crate::MOST;
@@ -42,19 +42,19 @@ pub struct Row {
 
 impl Model for Row {
     ghost use Rattle.pb_rows.specs.Terms.{PlainRow};
-    ghost use Rattle.pb_rows.specs.Rows.{IsNormal};
+    ghost use Rattle.pb_rows.specs.Rows.{IsWellFormedRow};
 
     ghost Value = { PlainRow };
 
     ghost view = { λ r. record { terms = r.terms.items; degree = r.degree } };
 
-    ghost invariant = { λ r. IsNormal (record { terms = r.terms.items; degree = r.degree }) };
+    ghost invariant = { λ r. IsWellFormedRow (record { terms = r.terms.items; degree = r.degree }) };
 }
 
 /// The number of a factor.
 fn number_of(k: i128) -> u128
     requires { IsPositive k }
-    ensures value { result ≡ weight k }
+    ensures value { result ≡ positive_part k }
     ensures positive { 0 < result }
     ensures bound { result < 2 ^ 127 }
 {
@@ -132,7 +132,7 @@ impl Row {
     /// The terms, by rising variable.
     pub fn terms(&self) -> &[Term]
         ensures terms { result.now ≡ self.now.terms }
-        ensures normal { IsNormal self.now }
+        ensures normal { IsWellFormedRow self.now }
     {
         &self.terms
     }
@@ -165,9 +165,9 @@ impl Row {
     /// Multiplies all numbers by k.
     pub fn times(&mut self, k: i128) -> Result<(), TooBig>
         requires { IsPositive k }
-        ensures ok { OnOk result (self.new ≡ times (weight k) self.old) }
+        ensures ok { OnOk result (self.new ≡ times (positive_part k) self.old) }
         ensures err { OnErr result (self.new ≡ self.old) }
-        ensures fits { IsOk result ↔ Fits (times (weight k) self.old) }
+        ensures fits { IsOk result ↔ Fits (times (positive_part k) self.old) }
         ensures sound { OnOk result (HoldsAfter self.old self.new) }
     {
         let factor = number_of(k);
@@ -182,7 +182,7 @@ impl Row {
     /// Divides all numbers by k, each rounded up.
     pub fn divide(&mut self, k: i128)
         requires { IsPositive k }
-        ensures is { self.new ≡ divide (weight k) self.old }
+        ensures is { self.new ≡ divide (positive_part k) self.old }
         ensures sound { HoldsAfter self.old self.new }
     {
         let divisor = number_of(k);

@@ -1,7 +1,7 @@
 // Terms, and lists of them.
 ghost use Rattle.std.specs.Prelude.{◌≡◌, ◌<◌, ◌≤◌, ◌*◌, ◌+◌, ◌^◌, length, map};
 ghost use Rattle.std.specs.List.{All};
-ghost use Rattle.pb_rows.specs.Terms.{IsPositive, capped, coef_sum, divided, opposite_lit, part_over, scaled, weighing, weight, weight_over};
+ghost use Rattle.pb_rows.specs.Terms.{IsPositive, capped, coef_sum, divided, opposite_lit, part_over, scaled, weighing, positive_part, weight_over};
 ghost use Rattle.pb_rows.specs.Points.{IsCovered, is_true_at, point_of, share, true_sum};
 ghost use Rattle.pb_rows.specs.Closure.{literals_of, nonfalse_share, nonfalse_sum};
 
@@ -10,7 +10,7 @@ use hrt_base::{Lit, Term, Value};
 /// The coefficient of a term.
 pub(crate) fn weight_of(t: Term) -> u128
     requires { IsPositive t.coef }
-    ensures value { result ≡ weight t.coef }
+    ensures value { result ≡ positive_part t.coef }
     ensures positive { 0 < result }
     ensures bound { result < 2 ^ 127 }
 {
@@ -31,7 +31,7 @@ pub(crate) fn weighing(n: u128, lit: Lit) -> Term
 /// A term with its coefficient multiplied.
 fn scaled_term(t: Term, k: u128) -> Term
     requires positive { IsPositive t.coef }
-    requires fits { weight t.coef * k < 2 ^ 127 }
+    requires fits { positive_part t.coef * k < 2 ^ 127 }
     ensures { result ≡ scaled k t }
 {
     weighing(weight_of(t) * k, t.lit)
@@ -57,7 +57,7 @@ fn capped_term(t: Term, most: u128) -> Term
 /// Multiplies each coefficient.
 pub(crate) fn scale(terms: &mut Vec<Term>, k: u128)
     requires positive { All (λ t. IsPositive t.coef) terms.old.items }
-    requires fits { All (λ t. weight t.coef * k < 2 ^ 127) terms.old.items }
+    requires fits { All (λ t. positive_part t.coef * k < 2 ^ 127) terms.old.items }
     ensures { terms.new.items ≡ map (scaled k) terms.old.items }
 {
     for t in terms.iter_mut() {

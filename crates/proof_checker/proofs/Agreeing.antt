@@ -5,7 +5,7 @@ use Rattle.std.specs.List.{All}
 use Rattle.std.proofs.lemmas.List.Elements.{All-head, All-tail}
 use Rattle.hrt_base.specs.declared.literal.Lit.{Lit}
 use Rattle.hrt_base.specs.declared.literal.Term.{Term}
-use Rattle.pb_rows.specs.Terms.{PlainRow, weight}
+use Rattle.pb_rows.specs.Terms.{PlainRow, positive_part}
 use Rattle.pb_rows.specs.Points.{IsCovered, Point, is_true_at, true_sum, value_at}
 use Rattle.pb_rows.specs.Rows.{holds}
 use Rattle.proof_rules.specs.Refusals.{Refusal, NotASolution}
@@ -24,7 +24,7 @@ module _ (n : ℕ) (p q : Point) (agree : (v : ℕ) → IsCovered n v → p v �
   same-true_sum : (ts : List Term) → All Covered ts → true_sum p ts ≡ true_sum q ts
   same-true_sum [] all = refl
   same-true_sum (t ∷ ts) all =
-      ap₂ (λ (b : Bool) (s : ℕ). (if b then weight t.coef else 0) + s) (true_at t.lit (All-head Covered t ts all)) (same-true_sum ts (All-tail Covered t ts all))
+      ap₂ (λ (b : Bool) (s : ℕ). (if b then positive_part t.coef else 0) + s) (true_at t.lit (All-head Covered t ts all)) (same-true_sum ts (All-tail Covered t ts all))
 
   pub same-value : (ts : List Term) → All Covered ts → value_at p ts ≡ value_at q ts
   same-value [] all = refl

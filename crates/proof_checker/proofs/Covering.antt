@@ -16,7 +16,7 @@ use Rattle.row_text.specs.Rows.{is_small_row}
 use Rattle.rup_engine.specs.Live.{IsOver}
 use Rattle.proof_lines.specs.declared.line.PolStep.{PolStep}
 use Rattle.proof_lines.specs.declared.line.PolStep.TheVariants.{Id, Axiom, Add, Times, Divide, Saturate, Weaken}
-use Rattle.proof_lines.specs.Texts.{is_made_literal, is_made_step, is_made_term}
+use Rattle.proof_lines.specs.Texts.{is_spellable_literal, is_spellable_step, is_spellable_term}
 use Rattle.proof_rules.specs.Refusals.{Refusal, BadVariable, TooBig}
 use Rattle.proof_rules.specs.Pol.{pol_row}
 use Rattle.proof_rules.specs.States.{at_most_row, if_known, literals_in, minus_terms, rup_row}
@@ -29,7 +29,7 @@ use Rattle.proof_checker.specs.Tests.{known_literals}
 abbrev Covers : ℕ → Lit → Type 0
 Covers vars l = IsCovered vars l.var
 
-covered : (vars : ℕ) (l : Lit) → is_made_literal l ≡ true → l.var ≤ vars → Covers vars l
+covered : (vars : ℕ) (l : Lit) → is_spellable_literal l ≡ true → l.var ≤ vars → Covers vars l
 covered vars l made h = record { first = omega (arith, leb-true 1 l.var (and_parts (nat_le 1 l.var) (nat_le l.var 4294967295) made).0); last = h }
 
 -- literals that are known
@@ -39,16 +39,16 @@ known-within vars (l ∷ ls) r x h =
     let parts = made_if (nat_le l.var vars) (if_known vars ls r) (BadVariable l.var) x h in
     (leb-true l.var vars parts.0, known-within vars ls r x parts.1)
 
-all_covered : (vars : ℕ) (ls : List Lit) → list_all is_made_literal ls ≡ true → ByRecursion (λ (l : Lit). l.var ≤ vars) ls → ByRecursion (Covers vars) ls
+all_covered : (vars : ℕ) (ls : List Lit) → list_all is_spellable_literal ls ≡ true → ByRecursion (λ (l : Lit). l.var ≤ vars) ls → ByRecursion (Covers vars) ls
 all_covered vars [] made h = tt
-all_covered vars (l ∷ ls) made h = let parts = and_parts (is_made_literal l) (list_all is_made_literal ls) made in (covered vars l parts.0 h.0, all_covered vars ls parts.1 h.1)
+all_covered vars (l ∷ ls) made h = let parts = and_parts (is_spellable_literal l) (list_all is_spellable_literal ls) made in (covered vars l parts.0 h.0, all_covered vars ls parts.1 h.1)
 
-pub literals-covered : (vars : ℕ) (ls : List Lit) → list_all is_made_literal ls ≡ true → known_literals vars ls ≡ Ok tt → All (Covers vars) ls
+pub literals-covered : (vars : ℕ) (ls : List Lit) → list_all is_spellable_literal ls ≡ true → known_literals vars ls ≡ Ok tt → All (Covers vars) ls
 literals-covered vars ls made known = All-from_recursion (Covers vars) ls (all_covered vars ls made (known-within vars ls (Ok tt) tt known))
 
 -- ---- `pol`
 
-allowed : (vars : ℕ) (step : PolStep) → is_made_step step ≡ true → Allows (Covers vars) vars step
+allowed : (vars : ℕ) (step : PolStep) → is_spellable_step step ≡ true → Allows (Covers vars) vars step
 allowed vars (Id n) made = tt
 allowed vars (Axiom l) made = λ h. covered vars l made h
 allowed vars Add made = tt
@@ -57,9 +57,9 @@ allowed vars (Divide k) made = tt
 allowed vars Saturate made = tt
 allowed vars (Weaken v) made = tt
 
-all_allowed : (vars : ℕ) (steps : List PolStep) → list_all is_made_step steps ≡ true → ByRecursion (Allows (Covers vars) vars) steps
+all_allowed : (vars : ℕ) (steps : List PolStep) → list_all is_spellable_step steps ≡ true → ByRecursion (Allows (Covers vars) vars) steps
 all_allowed vars [] made = tt
-all_allowed vars (step ∷ steps) made = let parts = and_parts (is_made_step step) (list_all is_made_step steps) made in (allowed vars step parts.0, all_allowed vars steps parts.1)
+all_allowed vars (step ∷ steps) made = let parts = and_parts (is_spellable_step step) (list_all is_spellable_step steps) made in (allowed vars step parts.0, all_allowed vars steps parts.1)
 
 over_kept : (vars : ℕ) → IsKeptBy (IsOver vars) (Covers vars)
 over_kept vars = record {
@@ -71,16 +71,16 @@ over_kept vars = record {
   by_weaken = λ v row h. weaken_over (IsCovered vars) v row h;
 }
 
-pub pol-over : (vars : ℕ) (live : List NumberedRow) (steps : List PolStep) (row : PlainRow) → list_all is_made_step steps ≡ true → All (IsOver vars) (rows_of live) → pol_row vars live steps ≡ Ok row → IsOver vars row
+pub pol-over : (vars : ℕ) (live : List NumberedRow) (steps : List PolStep) (row : PlainRow) → list_all is_spellable_step steps ≡ true → All (IsOver vars) (rows_of live) → pol_row vars live steps ≡ Ok row → IsOver vars row
 pol-over vars live steps row made over e = pol_row-keeps_by (IsOver vars) (Covers vars) (over_kept vars) vars live steps row e (all_allowed vars steps made) over
 
 -- ---- `rup`
 
-terms_covered : (vars : ℕ) (ts : List Term) → list_all is_made_term ts ≡ true → ByRecursion (λ (l : Lit). l.var ≤ vars) (literals_in ts) → ByRecursion (λ (t : Term). IsCovered vars t.lit.var) ts
+terms_covered : (vars : ℕ) (ts : List Term) → list_all is_spellable_term ts ≡ true → ByRecursion (λ (l : Lit). l.var ≤ vars) (literals_in ts) → ByRecursion (λ (t : Term). IsCovered vars t.lit.var) ts
 terms_covered vars [] made h = tt
-terms_covered vars (t ∷ ts) made h = let parts = and_parts (is_made_term t) (list_all is_made_term ts) made in (covered vars t.lit parts.0 h.0, terms_covered vars ts parts.1 h.1)
+terms_covered vars (t ∷ ts) made h = let parts = and_parts (is_spellable_term t) (list_all is_spellable_term ts) made in (covered vars t.lit parts.0 h.0, terms_covered vars ts parts.1 h.1)
 
-pub rup-over : (vars : ℕ) (w : Written) (row : PlainRow) → list_all is_made_term w.terms ≡ true → rup_row vars w ≡ Ok row → (in_normal_form w ≡ row) × IsOver vars row
+pub rup-over : (vars : ℕ) (w : Written) (row : PlainRow) → list_all is_spellable_term w.terms ≡ true → rup_row vars w ≡ Ok row → (in_normal_form w ≡ row) × IsOver vars row
 rup-over vars w row made e =
     let fits : Result PlainRow Refusal = if nat_le (all_sizes w.terms w.at_least) (2 ^ 120) then Ok (in_normal_form w) else Err TooBig in
     let small = made_if (is_small_row w) (if_known vars (literals_in w.terms) fits) TooBig row e in

@@ -10,7 +10,7 @@ use Rattle.proof_lines.specs.declared.refusal.LineRefusal.{LineRefusal}
 use Rattle.proof_lines.specs.declared.refusal.LineRefusal.TheVariants.{Syntax, TooBig}
 use Rattle.proof_lines.specs.FirstLine.{counted, first_line, judged, kind_of, line_to}
 use Rattle.proof_lines.specs.Spelling.{is_small_line, read_line}
-use Rattle.proof_lines.specs.Texts.{is_made}
+use Rattle.proof_lines.specs.Texts.{is_spellable}
 use Rattle.proof_lines.proofs.LinesMade.{line_made}
 use Rattle.proof_rules.specs.Texts.{Cut, cut, into_first, whole_lines, with_byte}
 
@@ -136,7 +136,7 @@ counted_some n (Ok l) e = cc e
 counted_some n (Err refusal) e = cc e
 
 pub record IsTaken (bytes : List ℕ) (line : Line) (len : ℕ) : Type 0 where
-  pub made : is_made line ≡ true
+  pub made : is_spellable line ≡ true
   pub small : is_small_line line ≡ true
   pub begins : Begins bytes (Some line) len
 

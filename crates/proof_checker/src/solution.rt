@@ -4,7 +4,7 @@ ghost use Rattle.std.specs.List.{All, list_all};
 ghost use Rattle.pb_rows.specs.Points.{IsCovered, point_of};
 ghost use Rattle.opb_text.specs.Limits.{IsWithinLimits};
 ghost use Rattle.proof_lines.specs.declared.line.Line.TheVariants.{Soli};
-ghost use Rattle.proof_lines.specs.Texts.{is_made_literal};
+ghost use Rattle.proof_lines.specs.Texts.{is_spellable_literal};
 ghost use Rattle.proof_rules.specs.States.{is_full};
 ghost use Rattle.proof_rules.specs.Valid.{Proving};
 ghost use Rattle.proof_checker.specs.Faults.{Answers, Halts, IsNotFullWhere};
@@ -112,7 +112,7 @@ pub fn log(
     requires limits { IsWithinLimits formula.now }
     requires vars { state.old.vars ≡ formula.now.vars }
     requires next { state.old.state.next < 2 ^ 63 }
-    requires made { IsTrue (list_all is_made_literal literals.now) }
+    requires made { IsTrue (list_all is_spellable_literal literals.now) }
     ensures ok { OnOk result (Steps formula.now (Soli literals.now) state.old state.new) }
     ensures refused { IfErr result (Halts formula.now (Proving state.old.state) (Soli literals.now)) }
 {

@@ -2,7 +2,7 @@
 ghost use Rattle.std.specs.Prelude.{◌≡◌, ◌<◌, ◌^◌, IsTrue, IfErr, IfOk};
 ghost use Rattle.opb_text.specs.Limits.{IsWithinLimits};
 ghost use Rattle.proof_lines.specs.Spelling.{is_small_line};
-ghost use Rattle.proof_lines.specs.Texts.{is_made};
+ghost use Rattle.proof_lines.specs.Texts.{is_spellable};
 ghost use Rattle.proof_rules.specs.States as states;
 ghost use Rattle.proof_rules.specs.Sound.{IsSoundState};
 ghost use Rattle.proof_checker.specs.Faults.{Halts};
@@ -74,7 +74,7 @@ fn after_proving(
     requires limits { IsWithinLimits formula.now }
     requires stands { IsAt formula.now Stage.Proving state.old }
     requires next { state.old.state.next < 2 ^ 63 }
-    requires made { IsTrue (is_made line.now) }
+    requires made { IsTrue (is_spellable line.now) }
     requires small { IsTrue (is_small_line line.now) }
     ensures ok { IfOk result (λ stage. Goes formula.now line.now Stage.Proving state.old stage state.new) }
     ensures refused { IfErr result (Halts formula.now (place_of Stage.Proving state.old.state) line.now) }
@@ -154,7 +154,7 @@ pub fn next_stage(
     requires stands { IsAt formula.now stage state.old }
     requires sound { IsSoundAt formula.now stage state.old.state }
     requires room { HasRoomAt stage state.old.state }
-    requires made { IsTrue (is_made line.now) }
+    requires made { IsTrue (is_spellable line.now) }
     requires small { IsTrue (is_small_line line.now) }
     ensures ok { IfOk result (λ next. Goes formula.now line.now stage state.old next state.new) }
     ensures refused { IfErr result (Halts formula.now (place_of stage state.old.state) line.now) }

@@ -6,7 +6,7 @@ ghost use Rattle.pb_rows.specs.Closure.{Implies, Refuted, none};
 ghost use Rattle.pb_rows.specs.Formula.{numbered_from};
 ghost use Rattle.opb_text.specs.Limits.{IsWithinLimits, most_rows};
 ghost use Rattle.rup_engine.specs.Live.{IsOver};
-ghost use Rattle.proof_lines.specs.Texts.{is_made_step};
+ghost use Rattle.proof_lines.specs.Texts.{is_spellable_step};
 ghost use Rattle.proof_rules.specs.Pol.{pol_row};
 ghost use Rattle.proof_rules.specs.States.{deleted, first_state, live_rows};
 ghost use Rattle.proof_rules.specs.Claims.{HasStronger};
@@ -101,7 +101,7 @@ impl State {
     /// Makes the row that steps leave on the stack.
     pub fn row_of_steps(&self, alloc: Global, vars: u32, steps: &[PolStep]) -> Result<Row, Fault>
         requires vars { self.now.vars ≡ vars }
-        requires made { IsTrue (list_all is_made_step steps.now) }
+        requires made { IsTrue (list_all is_spellable_step steps.now) }
         ensures ok { IfOk result (λ row. pol_row vars self.now.state.live steps.now ≡ Ok row) }
         ensures over { IfOk result (IsOver vars) }
         ensures refused { IfErr result (Answers (pol_row vars self.now.state.live steps.now)) }

@@ -3,7 +3,7 @@ ghost use Rattle.std.specs.Prelude.{◌≡◌, ◌<◌, ◌^◌, IsTrue, IfErr, 
 ghost use Rattle.std.specs.List.{list_all};
 ghost use Rattle.row_text.specs.Rows.{is_small_row};
 ghost use Rattle.proof_lines.specs.declared.line.Line.TheVariants.{Del, Pol, Rup};
-ghost use Rattle.proof_lines.specs.Texts.{is_made_step, is_made_term};
+ghost use Rattle.proof_lines.specs.Texts.{is_spellable_step, is_spellable_term};
 ghost use Rattle.proof_rules.specs.States.{rup_row};
 ghost use Rattle.proof_rules.specs.Valid.{Proving};
 ghost use Rattle.proof_checker.specs.Faults.{Answers, Halts};
@@ -27,7 +27,7 @@ pub fn derive(
 ) -> Result<(), Fault>
     requires vars { state.old.vars ≡ formula.now.vars }
     requires next { state.old.state.next < 2 ^ 63 }
-    requires made { IsTrue (list_all is_made_step steps.now) }
+    requires made { IsTrue (list_all is_spellable_step steps.now) }
     ensures ok { OnOk result (Steps formula.now (Pol steps.now) state.old state.new) }
     ensures refused { IfErr result (Halts formula.now (Proving state.old.state) (Pol steps.now)) }
 {
@@ -72,7 +72,7 @@ pub fn imply(
 ) -> Result<(), Fault>
     requires vars { state.old.vars ≡ formula.now.vars }
     requires next { state.old.state.next < 2 ^ 63 }
-    requires made { IsTrue (list_all is_made_term written.now.terms) }
+    requires made { IsTrue (list_all is_spellable_term written.now.terms) }
     requires small { IsTrue (is_small_row written.now) }
     ensures ok { OnOk result (Steps formula.now (Rup written.now) state.old state.new) }
     ensures refused { IfErr result (Halts formula.now (Proving state.old.state) (Rup written.now)) }

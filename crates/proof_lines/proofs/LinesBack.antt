@@ -22,43 +22,43 @@ use Rattle.proof_lines.specs.declared.line.Claim.TheVariants.{Bounds, Unsat, Not
 use Rattle.proof_lines.specs.declared.line.Line.{Line}
 use Rattle.proof_lines.specs.declared.line.Line.TheVariants.{Header, Count, Pol, Rup, Soli, Del, Output, Conclusion, End, Comment, Blank}
 use Rattle.proof_lines.specs.Spelling.{is_small_bound, is_small_claim, is_small_line, is_small_step, most_bytes, one_or_more, read_bound, read_claim, read_count, read_line, read_row_no, read_steps, read_tokens, row_no}
-use Rattle.proof_lines.specs.Texts.{bound_text, claim_words, id_text, is_made, is_made_id, is_made_literal, is_made_step, is_made_term, is_some_of, line_text, line_words, spelling, step_words}
+use Rattle.proof_lines.specs.Texts.{bound_text, claim_words, id_text, is_spellable, is_spellable_id, is_spellable_literal, is_spellable_step, is_spellable_term, is_nonempty_and_all, line_text, line_words, spelling, step_words}
 use Rattle.proof_lines.proofs.StepsBack.{decimal_not, decimal_not_low, made_id_read, made_id_word, made_literal_read, made_literal_word, steps_back, steps_words_are, variable_made}
 
 -- ---- lists
 
-pub literals_back : (lits : List Lit) → list_all is_made_literal lits ≡ true → read_each read_literal (map literal_text lits) ≡ Some lits
+pub literals_back : (lits : List Lit) → list_all is_spellable_literal lits ≡ true → read_each read_literal (map literal_text lits) ≡ Some lits
 literals_back [] made = refl
 literals_back (l ∷ lits) made =
-    let m = and_parts (is_made_literal l) (list_all is_made_literal lits) made in
+    let m = and_parts (is_spellable_literal l) (list_all is_spellable_literal lits) made in
     ap₂ (both (λ (x : Lit) xs. x ∷ xs)) (made_literal_read l m.0) (literals_back lits m.1)
 
-pub literals_words : (lits : List Lit) → list_all is_made_literal lits ≡ true → list_all is_word (map literal_text lits) ≡ true
+pub literals_words : (lits : List Lit) → list_all is_spellable_literal lits ≡ true → list_all is_word (map literal_text lits) ≡ true
 literals_words [] made = refl
 literals_words (l ∷ lits) made =
-    let m = and_parts (is_made_literal l) (list_all is_made_literal lits) made in
+    let m = and_parts (is_spellable_literal l) (list_all is_spellable_literal lits) made in
     and_from (is_word (literal_text l)) (list_all is_word (map literal_text lits)) (made_literal_word l m.0) (literals_words lits m.1)
 
-pub row_no_back : (r : RowNo) → is_made_id r ≡ true → read_row_no (id_text r) ≡ Some r
+pub row_no_back : (r : RowNo) → is_spellable_id r ≡ true → read_row_no (id_text r) ≡ Some r
 row_no_back r made = ap (option_map row_no) (made_id_read r made)
 
-pub ids_back : (ids : List RowNo) → list_all is_made_id ids ≡ true → read_each read_row_no (map id_text ids) ≡ Some ids
+pub ids_back : (ids : List RowNo) → list_all is_spellable_id ids ≡ true → read_each read_row_no (map id_text ids) ≡ Some ids
 ids_back [] made = refl
 ids_back (r ∷ ids) made =
-    let m = and_parts (is_made_id r) (list_all is_made_id ids) made in
+    let m = and_parts (is_spellable_id r) (list_all is_spellable_id ids) made in
     ap₂ (both (λ (x : RowNo) xs. x ∷ xs)) (row_no_back r m.0) (ids_back ids m.1)
 
-pub some_ids_back : (ids : List RowNo) → is_some_of is_made_id ids ≡ true → one_or_more (read_each read_row_no (map id_text ids)) ≡ Some ids
+pub some_ids_back : (ids : List RowNo) → is_nonempty_and_all is_spellable_id ids ≡ true → one_or_more (read_each read_row_no (map id_text ids)) ≡ Some ids
 some_ids_back [] made = absurd cc
 some_ids_back (r ∷ ids) made = ap one_or_more (ids_back (r ∷ ids) made)
 
-pub ids_words : (ids : List RowNo) → list_all is_made_id ids ≡ true → list_all is_word (map id_text ids) ≡ true
+pub ids_words : (ids : List RowNo) → list_all is_spellable_id ids ≡ true → list_all is_word (map id_text ids) ≡ true
 ids_words [] made = refl
 ids_words (r ∷ ids) made =
-    let m = and_parts (is_made_id r) (list_all is_made_id ids) made in
+    let m = and_parts (is_spellable_id r) (list_all is_spellable_id ids) made in
     and_from (is_word (id_text r)) (list_all is_word (map id_text ids)) (made_id_word r m.0) (ids_words ids m.1)
 
-pub some_ids_words : (ids : List RowNo) → is_some_of is_made_id ids ≡ true → list_all is_word (map id_text ids) ≡ true
+pub some_ids_words : (ids : List RowNo) → is_nonempty_and_all is_spellable_id ids ≡ true → list_all is_word (map id_text ids) ≡ true
 some_ids_words [] made = absurd cc
 some_ids_words (r ∷ ids) made = ids_words (r ∷ ids) made
 
@@ -116,22 +116,22 @@ claim_words_are Nothing small = refl
 
 -- ---- lines
 
-terms_made : (ts : List Term) → list_all is_made_term ts ≡ true → AllMade ts
+terms_made : (ts : List Term) → list_all is_spellable_term ts ≡ true → AllMade ts
 terms_made [] made = tt
 terms_made (t ∷ ts) made =
-    let m = and_parts (is_made_term t) (list_all is_made_term ts) made in
+    let m = and_parts (is_spellable_term t) (list_all is_spellable_term ts) made in
     let v = variable_made t.lit.var m.0 in
     (record { low = v.0; high = v.1 }, terms_made ts m.1)
 
-some_steps_back : (steps : List PolStep) → is_some_of is_made_step steps ≡ true → list_all is_small_step steps ≡ true → one_or_more (read_steps (flat_map step_words steps)) ≡ Some steps
+some_steps_back : (steps : List PolStep) → is_nonempty_and_all is_spellable_step steps ≡ true → list_all is_small_step steps ≡ true → one_or_more (read_steps (flat_map step_words steps)) ≡ Some steps
 some_steps_back [] made small = absurd cc
 some_steps_back (step ∷ steps) made small = ap one_or_more (steps_back (step ∷ steps) made small)
 
-some_steps_words : (steps : List PolStep) → is_some_of is_made_step steps ≡ true → list_all is_small_step steps ≡ true → list_all is_word (flat_map step_words steps) ≡ true
+some_steps_words : (steps : List PolStep) → is_nonempty_and_all is_spellable_step steps ≡ true → list_all is_small_step steps ≡ true → list_all is_word (flat_map step_words steps) ≡ true
 some_steps_words [] made small = absurd cc
 some_steps_words (step ∷ steps) made small = steps_words_are (step ∷ steps) made small
 
-pub words_back : (line : Line) → is_made line ≡ true → is_small_line line ≡ true → read_tokens (line_words line) ≡ Some line
+pub words_back : (line : Line) → is_spellable line ≡ true → is_small_line line ≡ true → read_tokens (line_words line) ≡ Some line
 words_back Header made small = refl
 words_back (Count n) made small = ap (option_map Count) (count_back n (leb-true n (10 ^ 18 - 1) made))
 words_back (Pol steps) made small = ap (option_map Pol) (some_steps_back steps made small)
@@ -144,7 +144,7 @@ words_back End made small = refl
 words_back Comment made small = refl
 words_back Blank made small = refl
 
-pub line_words_are : (line : Line) → is_made line ≡ true → is_small_line line ≡ true → list_all is_word (line_words line) ≡ true
+pub line_words_are : (line : Line) → is_spellable line ≡ true → is_small_line line ≡ true → list_all is_word (line_words line) ≡ true
 line_words_are Header made small = refl
 line_words_are (Count n) made small = and_from (is_word (decimal n)) true (decimal_word n (omega (arith, leb-true n (10 ^ 18 - 1) made))) refl
 line_words_are (Pol steps) made small = some_steps_words steps made small
@@ -158,7 +158,7 @@ line_words_are Comment made small = refl
 line_words_are Blank made small = refl
 
 -- What is written for a line reads as the line.
-pub line_back : (line : Line) → is_made line ≡ true → is_small_line line ≡ true → length (line_text line) ≤ most_bytes → read_line (spelling line) ≡ Some line
+pub line_back : (line : Line) → is_spellable line ≡ true → is_small_line line ≡ true → length (line_text line) ≤ most_bytes → read_line (spelling line) ≡ Some line
 line_back line made small short =
     let words = line_words_are line made small in
     let few : length (spelling line) + 1 ≤ most_bytes = omega (arith, length-append (spelling line) (10 ∷ [])) in

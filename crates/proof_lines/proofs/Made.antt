@@ -14,14 +14,14 @@ use Rattle.hrt_base.specs.declared.numbered.RowNo.{RowNo}
 use Rattle.row_text.specs.Numbers.{both, read_digits, read_each, read_id, read_literal, read_positive, read_variable}
 use Rattle.row_text.proofs.Ranges.{IsVariable, both_some, if_some, literal_range, map_some, positive_range, unless_some, variable_range}
 use Rattle.proof_lines.specs.Spelling.{one_or_more, read_count, read_row_no, row_no}
-use Rattle.proof_lines.specs.Texts.{is_made_id, is_made_literal, is_made_variable, is_some_of}
+use Rattle.proof_lines.specs.Texts.{is_spellable_id, is_spellable_literal, is_spellable_variable, is_nonempty_and_all}
 
 -- ---- numbers
 
 own : IsNumeralModel (λ ds. all_ascii_digits ds ≡ true) (digits_value 10)
 own = numerals_by_value _ tells_all_ascii_digits
 
-within_ids : (n : ℕ) → 1 ≤ n → n < 10 ^ 18 → is_made_id (row_no n) ≡ true
+within_ids : (n : ℕ) → 1 ≤ n → n < 10 ^ 18 → is_spellable_id (row_no n) ≡ true
 within_ids n low high = and_from (nat_le 1 n) (nat_le n (10 ^ 18 - 1)) (le-leb 1 n low) (le-leb n (10 ^ 18 - 1) (omega arith))
 
 digits_short : (t : List ℕ) (n : ℕ) → length t ≤ 18 → read_positive t ≡ Some n → n < 10 ^ 18
@@ -33,23 +33,23 @@ digits_short (b ∷ ds) n few e =
     let short : digits_value 10 (b ∷ ds) < 10 ^ 18 = digits_value_short own (b ∷ ds) 18 i.0 few in
     subst (λ (m : ℕ). m < 10 ^ 18) is short
 
-pub id_is_made : (t : List ℕ) (n : ℕ) → read_id t ≡ Some n → is_made_id (row_no n) ≡ true
+pub id_is_made : (t : List ℕ) (n : ℕ) → read_id t ≡ Some n → is_spellable_id (row_no n) ≡ true
 id_is_made t n e =
     let i = if_some (nat_le (length t) 18) (read_positive t) n e in
     within_ids n (positive_range t n i.1).0 (digits_short t n (leb-true (length t) 18 i.0) i.1)
 
-pub row_no_made : (t : List ℕ) (r : RowNo) → read_row_no t ≡ Some r → is_made_id r ≡ true
+pub row_no_made : (t : List ℕ) (r : RowNo) → read_row_no t ≡ Some r → is_spellable_id r ≡ true
 row_no_made t r e =
     let m = map_some row_no (read_id t) r e in
-    subst (λ (s : RowNo). is_made_id s ≡ true) m.2 (id_is_made t m.0 m.1)
+    subst (λ (s : RowNo). is_spellable_id s ≡ true) m.2 (id_is_made t m.0 m.1)
 
-in_range : (v : ℕ) → IsVariable v → is_made_variable v ≡ true
+in_range : (v : ℕ) → IsVariable v → is_spellable_variable v ≡ true
 in_range v r = and_from (nat_le 1 v) (nat_le v 4294967295) (le-leb 1 v r.0) (le-leb v 4294967295 r.1)
 
-pub variable_is_made : (t : List ℕ) (v : ℕ) → read_variable t ≡ Some v → is_made_variable v ≡ true
+pub variable_is_made : (t : List ℕ) (v : ℕ) → read_variable t ≡ Some v → is_spellable_variable v ≡ true
 variable_is_made t v e = in_range v (variable_range t v e)
 
-pub literal_is_made : (t : List ℕ) (l : Lit) → read_literal t ≡ Some l → is_made_literal l ≡ true
+pub literal_is_made : (t : List ℕ) (l : Lit) → read_literal t ≡ Some l → is_spellable_literal l ≡ true
 literal_is_made t l e = in_range l.var (literal_range t l e)
 
 -- ---- lists
@@ -63,12 +63,12 @@ each_made {A} read test h (t ∷ ts) xs e =
     let later : list_all test b.second ≡ true = each_made read test h ts b.second b.second_is in
     subst (λ (ys : List A). list_all test ys ≡ true) b.joined_is (and_from (test b.first) (list_all test b.second) here later)
 
-pub some_made : {A : Type 0} (test : A → Bool) (o : Option (List A)) (xs : List A) → ((ys : List A) → o ≡ Some ys → list_all test ys ≡ true) → one_or_more o ≡ Some xs → is_some_of test xs ≡ true
+pub some_made : {A : Type 0} (test : A → Bool) (o : Option (List A)) (xs : List A) → ((ys : List A) → o ≡ Some ys → list_all test ys ≡ true) → one_or_more o ≡ Some xs → is_nonempty_and_all test xs ≡ true
 some_made test None xs h e = absurd cc
 some_made test (Some []) xs h e = absurd cc
 some_made {A} test (Some (y ∷ ys)) xs h e =
     let is : y ∷ ys ≡ xs = cc e in
-    subst (λ (zs : List A). is_some_of test zs ≡ true) is (h (y ∷ ys) refl)
+    subst (λ (zs : List A). is_nonempty_and_all test zs ≡ true) is (h (y ∷ ys) refl)
 
 -- ---- counts
 

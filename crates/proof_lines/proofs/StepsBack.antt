@@ -16,34 +16,34 @@ use Rattle.proof_lines.specs.declared.line.PolStep.{PolStep}
 use Rattle.proof_lines.specs.declared.line.PolStep.TheVariants.{Id, Axiom, Add, Times, Divide, Saturate, Weaken}
 use Rattle.proof_lines.specs.Spelling.{factor, id_or_axiom, is_small_step, read_step, read_steps, row_no}
 use Rattle.proof_lines.specs.Steps.{first_step, steps_after}
-use Rattle.proof_lines.specs.Texts.{id_text, is_factor, is_made_id, is_made_literal, is_made_step, is_made_variable, step_words, variable_text}
+use Rattle.proof_lines.specs.Texts.{id_text, is_factor, is_spellable_id, is_spellable_literal, is_spellable_step, is_spellable_variable, step_words, variable_text}
 use Rattle.proof_lines.proofs.Onto.{before}
 use Rattle.proof_lines.proofs.StepByStep.{steps-first}
 
 -- ---- what is made
 
-pub id_made : (r : RowNo) → is_made_id r ≡ true → (1 ≤ r.0) × (r.0 ≤ 10 ^ 18 - 1)
+pub id_made : (r : RowNo) → is_spellable_id r ≡ true → (1 ≤ r.0) × (r.0 ≤ 10 ^ 18 - 1)
 id_made r h = let t = and_parts (nat_le 1 r.0) (nat_le r.0 (10 ^ 18 - 1)) h in (leb-true 1 r.0 t.0, leb-true r.0 (10 ^ 18 - 1) t.1)
 
-pub variable_made : (v : ℕ) → is_made_variable v ≡ true → (1 ≤ v) × (v ≤ 4294967295)
+pub variable_made : (v : ℕ) → is_spellable_variable v ≡ true → (1 ≤ v) × (v ≤ 4294967295)
 variable_made v h = let t = and_parts (nat_le 1 v) (nat_le v 4294967295) h in (leb-true 1 v t.0, leb-true v 4294967295 t.1)
 
-pub made_literal_read : (l : Lit) → is_made_literal l ≡ true → read_literal (literal_text l) ≡ Some l
+pub made_literal_read : (l : Lit) → is_spellable_literal l ≡ true → read_literal (literal_text l) ≡ Some l
 made_literal_read l h = let m = variable_made l.var h in literal_read l m.0 m.1
 
-pub made_literal_word : (l : Lit) → is_made_literal l ≡ true → is_word (literal_text l) ≡ true
+pub made_literal_word : (l : Lit) → is_spellable_literal l ≡ true → is_word (literal_text l) ≡ true
 made_literal_word l h = literal_word l (variable_made l.var h).1
 
-pub made_variable_read : (v : ℕ) → is_made_variable v ≡ true → read_variable (variable_text v) ≡ Some v
+pub made_variable_read : (v : ℕ) → is_spellable_variable v ≡ true → read_variable (variable_text v) ≡ Some v
 made_variable_read v h = let m = variable_made v h in variable_read v m.0 m.1
 
-pub made_variable_word : (v : ℕ) → is_made_variable v ≡ true → is_word (variable_text v) ≡ true
+pub made_variable_word : (v : ℕ) → is_spellable_variable v ≡ true → is_word (variable_text v) ≡ true
 made_variable_word v h = variable_word v (variable_made v h).1
 
-pub made_id_read : (r : RowNo) → is_made_id r ≡ true → read_id (id_text r) ≡ Some r.0
+pub made_id_read : (r : RowNo) → is_spellable_id r ≡ true → read_id (id_text r) ≡ Some r.0
 made_id_read r h = let m = id_made r h in id_read r.0 m.0 m.1
 
-pub made_id_word : (r : RowNo) → is_made_id r ≡ true → is_word (id_text r) ≡ true
+pub made_id_word : (r : RowNo) → is_spellable_id r ≡ true → is_word (id_text r) ≡ true
 made_id_word r h = let m = id_made r h in decimal_word r.0 (omega (arith, m.1))
 
 -- ---- a number is no other word
@@ -92,7 +92,7 @@ factor_no_operator : (k : ℤ) (us : List (List ℕ)) → is_factor k ≡ true �
 factor_no_operator (pos n) us made small = no_operator_number n us (small_abs (pos n) small)
 factor_no_operator (negsuc n) us made small = absurd cc
 
-step_no_operator : (step : PolStep) (us : List (List ℕ)) → is_made_step step ≡ true → is_small_step step ≡ true → NoOperator (step_words step ++ us)
+step_no_operator : (step : PolStep) (us : List (List ℕ)) → is_spellable_step step ≡ true → is_small_step step ≡ true → NoOperator (step_words step ++ us)
 step_no_operator (Id r) us made small = no_operator_number r.0 us (omega (arith, (id_made r made).1))
 step_no_operator (Axiom l) us made small = literal_no_operator l.var l.neg us
 step_no_operator Add us made small = no_operator_at (codes "+") us refl refl refl
@@ -101,10 +101,10 @@ step_no_operator (Divide k) us made small = factor_no_operator k (codes "d" ∷ 
 step_no_operator Saturate us made small = no_operator_at (codes "s") us refl refl refl
 step_no_operator (Weaken v) us made small = no_operator_at (variable_text v) (codes "w" ∷ us) refl refl refl
 
-steps_no_operator : (steps : List PolStep) → list_all is_made_step steps ≡ true → list_all is_small_step steps ≡ true → NoOperator (flat_map step_words steps)
+steps_no_operator : (steps : List PolStep) → list_all is_spellable_step steps ≡ true → list_all is_small_step steps ≡ true → NoOperator (flat_map step_words steps)
 steps_no_operator [] made small = no_operator_none
 steps_no_operator (step ∷ steps) made small =
-    step_no_operator step (flat_map step_words steps) (and_parts (is_made_step step) (list_all is_made_step steps) made).0 (and_parts (is_small_step step) (list_all is_small_step steps) small).0
+    step_no_operator step (flat_map step_words steps) (and_parts (is_spellable_step step) (list_all is_spellable_step steps) made).0 (and_parts (is_small_step step) (list_all is_small_step steps) small).0
 
 -- ---- one step
 
@@ -118,7 +118,7 @@ none_either : (b : Bool) → (if b then nothing else nothing) ≡ nothing
 none_either true = refl
 none_either false = refl
 
-axiom_step : (v : ℕ) (neg : Bool) → is_made_variable v ≡ true → read_step (literal_text (record { var = v; neg = neg })) ≡ Some (Axiom (record { var = v; neg = neg }))
+axiom_step : (v : ℕ) (neg : Bool) → is_spellable_variable v ≡ true → read_step (literal_text (record { var = v; neg = neg })) ≡ Some (Axiom (record { var = v; neg = neg }))
 axiom_step v true made =
     let t : List ℕ = literal_text (record { var = v; neg = true }) in
     ap₂ id_or_axiom (none_either (nat_le (length t) 18)) (made_literal_read (record { var = v; neg = true }) made)
@@ -136,7 +136,7 @@ factor_read (negsuc n) made small = absurd cc
 plain_ahead : (t : List ℕ) (step : PolStep) (us : List (List ℕ)) → NoOperator us → read_step t ≡ Some step → read_steps (t ∷ us) ≡ both before (Some step) (read_steps us)
 plain_ahead t step us none e = steps-first t us ∙ ap₂ (λ (o : Option PolStep) (vs : List (List ℕ)). both before o (read_steps vs)) (none.plain t ∙ e) none.same
 
-step_ahead : (step : PolStep) (us : List (List ℕ)) → NoOperator us → is_made_step step ≡ true → is_small_step step ≡ true → read_steps (step_words step ++ us) ≡ both before (Some step) (read_steps us)
+step_ahead : (step : PolStep) (us : List (List ℕ)) → NoOperator us → is_spellable_step step ≡ true → is_small_step step ≡ true → read_steps (step_words step ++ us) ≡ both before (Some step) (read_steps us)
 step_ahead (Id r) us none made small = plain_ahead (id_text r) (Id r) us none (id_step r.0 (omega (arith, (id_made r made).1)) (made_id_read r made))
 step_ahead (Axiom l) us none made small = plain_ahead (literal_text l) (Axiom l) us none (axiom_step l.var l.neg made)
 step_ahead Add us none made small = plain_ahead (codes "+") Add us none refl
@@ -145,16 +145,16 @@ step_ahead (Divide k) us none made small = steps-first (signed_decimal k) (codes
 step_ahead Saturate us none made small = plain_ahead (codes "s") Saturate us none refl
 step_ahead (Weaken v) us none made small = steps-first (variable_text v) (codes "w" ∷ us) ∙ ap (λ (o : Option ℕ). both before (option_map Weaken o) (read_steps us)) (made_variable_read v made)
 
-pub steps_back : (steps : List PolStep) → list_all is_made_step steps ≡ true → list_all is_small_step steps ≡ true → read_steps (flat_map step_words steps) ≡ Some steps
+pub steps_back : (steps : List PolStep) → list_all is_spellable_step steps ≡ true → list_all is_small_step steps ≡ true → read_steps (flat_map step_words steps) ≡ Some steps
 steps_back [] made small = refl
 steps_back (step ∷ steps) made small =
-    let m = and_parts (is_made_step step) (list_all is_made_step steps) made in
+    let m = and_parts (is_spellable_step step) (list_all is_spellable_step steps) made in
     let s = and_parts (is_small_step step) (list_all is_small_step steps) small in
     step_ahead step (flat_map step_words steps) (steps_no_operator steps m.1 s.1) m.0 s.0 ∙ ap (both before (Some step)) (steps_back steps m.1 s.1)
 
 -- ---- its words
 
-step_words_are : (step : PolStep) → is_made_step step ≡ true → is_small_step step ≡ true → list_all is_word (step_words step) ≡ true
+step_words_are : (step : PolStep) → is_spellable_step step ≡ true → is_small_step step ≡ true → list_all is_word (step_words step) ≡ true
 step_words_are (Id r) made small = and_from (is_word (id_text r)) true (made_id_word r made) refl
 step_words_are (Axiom l) made small = and_from (is_word (literal_text l)) true (made_literal_word l made) refl
 step_words_are Add made small = refl
@@ -163,9 +163,9 @@ step_words_are (Divide k) made small = and_from (is_word (signed_decimal k)) tru
 step_words_are Saturate made small = refl
 step_words_are (Weaken v) made small = and_from (is_word (variable_text v)) true (made_variable_word v made) refl
 
-pub steps_words_are : (steps : List PolStep) → list_all is_made_step steps ≡ true → list_all is_small_step steps ≡ true → list_all is_word (flat_map step_words steps) ≡ true
+pub steps_words_are : (steps : List PolStep) → list_all is_spellable_step steps ≡ true → list_all is_small_step steps ≡ true → list_all is_word (flat_map step_words steps) ≡ true
 steps_words_are [] made small = refl
 steps_words_are (step ∷ steps) made small =
-    let m = and_parts (is_made_step step) (list_all is_made_step steps) made in
+    let m = and_parts (is_spellable_step step) (list_all is_spellable_step steps) made in
     let s = and_parts (is_small_step step) (list_all is_small_step steps) small in
     all_words (step_words step) (flat_map step_words steps) (step_words_are step m.0 s.0) (steps_words_are steps m.1 s.1)

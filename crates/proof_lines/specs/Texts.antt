@@ -95,16 +95,16 @@ note_text note = note_spelling note ++ 10 ∷ []
 -- ---- which lines and notes have a spelling
 
 -- the row number has a spelling: it is 1 to 10^18 - 1
-abbrev pub is_made_id : RowNo → Bool
-is_made_id r = nat_le 1 r.0 && nat_le r.0 (10 ^ 18 - 1)
+abbrev pub is_spellable_id : RowNo → Bool
+is_spellable_id r = nat_le 1 r.0 && nat_le r.0 (10 ^ 18 - 1)
 
 -- the variable has a spelling of its own: it is 1 to 4,294,967,295
-abbrev pub is_made_variable : ℕ → Bool
-is_made_variable v = nat_le 1 v && nat_le v 4294967295
+abbrev pub is_spellable_variable : ℕ → Bool
+is_spellable_variable v = nat_le 1 v && nat_le v 4294967295
 
 -- the literal's variable has a spelling
-abbrev pub is_made_literal : Lit → Bool
-is_made_literal l = is_made_variable l.var
+abbrev pub is_spellable_literal : Lit → Bool
+is_spellable_literal l = is_spellable_variable l.var
 
 -- the number may be a factor: it is at least 1
 abbrev pub is_factor : ℤ → Bool
@@ -112,37 +112,37 @@ is_factor (pos n) = nat_le 1 n
 is_factor (negsuc n) = false
 
 -- the step has a spelling: its row number, variable or factor has one, where there is one
-abbrev pub is_made_step : PolStep → Bool
-is_made_step (Id r) = is_made_id r
-is_made_step (Axiom l) = is_made_literal l
-is_made_step (Times k) = is_factor k
-is_made_step (Divide k) = is_factor k
-is_made_step (Weaken v) = is_made_variable v
-is_made_step step = true
+abbrev pub is_spellable_step : PolStep → Bool
+is_spellable_step (Id r) = is_spellable_id r
+is_spellable_step (Axiom l) = is_spellable_literal l
+is_spellable_step (Times k) = is_factor k
+is_spellable_step (Divide k) = is_factor k
+is_spellable_step (Weaken v) = is_spellable_variable v
+is_spellable_step step = true
 
 -- the term's literal has a spelling; a coefficient always has one
-abbrev pub is_made_term : Term → Bool
-is_made_term t = is_made_literal t.lit
+abbrev pub is_spellable_term : Term → Bool
+is_spellable_term t = is_spellable_literal t.lit
 
 -- the list isn't empty, and each of its items passes the test
-abbrev pub is_some_of : {A : Type 0} → (A → Bool) → List A → Bool
-is_some_of test [] = false
-is_some_of test (x ∷ xs) = list_all test (x ∷ xs)
+abbrev pub is_nonempty_and_all : {A : Type 0} → (A → Bool) → List A → Bool
+is_nonempty_and_all test [] = false
+is_nonempty_and_all test (x ∷ xs) = list_all test (x ∷ xs)
 
 -- The line has a spelling: row numbers are 1 to 10^18 - 1, a count at most 10^18 - 1, variables 1 to 4,294,967,295, factors at
 -- least 1, and a `pol` line has a step and a `del` line a row number.
-abbrev pub is_made : Line → Bool
-is_made (Count n) = nat_le n (10 ^ 18 - 1)
-is_made (Pol steps) = is_some_of is_made_step steps
-is_made (Rup row) = list_all is_made_term row.terms
-is_made (Soli lits) = list_all is_made_literal lits
-is_made (Del ids) = is_some_of is_made_id ids
-is_made line = true
+abbrev pub is_spellable : Line → Bool
+is_spellable (Count n) = nat_le n (10 ^ 18 - 1)
+is_spellable (Pol steps) = is_nonempty_and_all is_spellable_step steps
+is_spellable (Rup row) = list_all is_spellable_term row.terms
+is_spellable (Soli lits) = list_all is_spellable_literal lits
+is_spellable (Del ids) = is_nonempty_and_all is_spellable_id ids
+is_spellable line = true
 
 -- the note has a spelling: its row numbers and variables have one, and a load note has at least one row number
-abbrev pub is_made_note : Note → Bool
-is_made_note (unit_note r) = is_made_id r
-is_made_note (bound_note r) = is_made_id r
-is_made_note (load_note trues rows) = list_all is_made_variable trues && is_some_of is_made_id rows
-is_made_note (learn_note r decisions asserts) = is_made_id r && list_all is_made_literal decisions && is_made_literal asserts
-is_made_note (drop_note r) = is_made_id r
+abbrev pub is_spellable_note : Note → Bool
+is_spellable_note (unit_note r) = is_spellable_id r
+is_spellable_note (bound_note r) = is_spellable_id r
+is_spellable_note (load_note trues rows) = list_all is_spellable_variable trues && is_nonempty_and_all is_spellable_id rows
+is_spellable_note (learn_note r decisions asserts) = is_spellable_id r && list_all is_spellable_literal decisions && is_spellable_literal asserts
+is_spellable_note (drop_note r) = is_spellable_id r

@@ -5,49 +5,49 @@ use Rattle.std.proofs.lemmas.Int.{ints}
 use Rattle.std.proofs.lemmas.List.{append-nil}
 use Rattle.std.proofs.lemmas.Bool.{le-leb, true≢false}
 use Rattle.hrt_base.specs.declared.literal.Term.{Term}
-use Rattle.pb_rows.specs.Terms.{PlainRow}
+use Rattle.pb_rows.specs.Terms.{PlainRow, positive_part}
 use Rattle.pb_rows.specs.Points.{Point, true_sum, value_at}
-use Rattle.pb_rows.specs.Normal.{gained, normal_form, on_opposites, or_zero, sizes, var_bound}
-use Rattle.pb_rows.specs.Rows.{IsNormal, add}
+use Rattle.pb_rows.specs.Normal.{gained, normal_form, on_opposites, sizes, var_bound}
+use Rattle.pb_rows.specs.Rows.{IsWellFormedRow, add}
 use Rattle.pb_rows.proofs.ByNets.{holds-normal_form}
 use Rattle.pb_rows.proofs.Forms.{merged_is}
 use Rattle.proof_rules.specs.States.{at_most_row, minus_terms}
-use Rattle.proof_rules.proofs.Fits.{fits-at_value, normal_form-rises, or_zero_least, same_shift}
+use Rattle.proof_rules.proofs.Fits.{fits-at_value, normal_form-rises, positive_part_least, same_shift}
 use Rattle.proof_rules.proofs.Steps.{value-negated}
 
 -- 0 >= d
 abbrev pub empty_row : ℕ → PlainRow
 empty_row d = record { terms = []; degree = d }
 
-empty-normal : (d : ℕ) → d ≤ 2 ^ 120 → IsNormal (empty_row d)
+empty-normal : (d : ℕ) → d ≤ 2 ^ 120 → IsWellFormedRow (empty_row d)
 empty-normal d h = record { rising = tt; fits = record { sum = zero-le; degree = h } }
 
 plain : List Term → ℕ → PlainRow
 plain ts d = record { terms = ts; degree = d }
 
 -- a sum with `0 >= d` is the row with a degree that is larger by d
-pub add-empty : (row : PlainRow) (d : ℕ) → IsNormal row → d ≤ 2 ^ 120 → add row (empty_row d) ≡ record { terms = row.terms; degree = row.degree + d }
+pub add-empty : (row : PlainRow) (d : ℕ) → IsWellFormedRow row → d ≤ 2 ^ 120 → add row (empty_row d) ≡ record { terms = row.terms; degree = row.degree + d }
 unfolding plain
 add-empty row d n h = sym (merged_is row (empty_row d) n (empty-normal d h)) ∙ ap (plain row.terms) (omega arith)
 
-pub normal_form-normal : (row : PlainRow) → IsNormal row → normal_form row.terms (pos row.degree) ≡ row
+pub normal_form-normal : (row : PlainRow) → IsWellFormedRow row → normal_form row.terms (pos row.degree) ≡ row
 unfolding plain
 normal_form-normal row n =
     ap₂ (λ (ts : List Term) (d : ℕ). normal_form ts (pos d)) (sym (append-nil row.terms)) (omega arith) ∙ add-empty row 0 n zero-le ∙ ap (plain row.terms) (omega arith)
 
 -- ---- the row of a solution
 
-grows : (z : ℤ) → (or_zero (z +ℤ pos 1) ≡ 0 → ⊥) → or_zero z + 1 ≡ or_zero (z +ℤ pos 1)
+grows : (z : ℤ) → (positive_part (z +ℤ pos 1) ≡ 0 → ⊥) → positive_part z + 1 ≡ positive_part (z +ℤ pos 1)
 grows (pos n) h = refl
-grows (negsuc n) h = absurd (h (omega (arith, or_zero_least (negsuc n +ℤ pos 1) 0 (omega (arith, ints)))))
+grows (negsuc n) h = absurd (h (omega (arith, positive_part_least (negsuc n +ℤ pos 1) 0 (omega (arith, ints)))))
 
 not_less : (v w : ℤ) → w ≡ neg_ℤ v → int_le (neg_ℤ (v -ℤ pos 1)) w ≡ false
 not_less v w e = grind (arith, ints)
 
-less_step : (v o : ℤ) (g : ℕ) → (or_zero ((neg_ℤ (v -ℤ pos 1) -ℤ o) +ℤ pos g) ≡ 0 → ⊥) → or_zero ((neg_ℤ v -ℤ o) +ℤ pos g) + 1 ≡ or_zero ((neg_ℤ (v -ℤ pos 1) -ℤ o) +ℤ pos g)
+less_step : (v o : ℤ) (g : ℕ) → (positive_part ((neg_ℤ (v -ℤ pos 1) -ℤ o) +ℤ pos g) ≡ 0 → ⊥) → positive_part ((neg_ℤ v -ℤ o) +ℤ pos g) + 1 ≡ positive_part ((neg_ℤ (v -ℤ pos 1) -ℤ o) +ℤ pos g)
 less_step v o g h =
     let e = same_shift v o (pos g) ((neg_ℤ v -ℤ o) +ℤ pos g) refl in
-    grows ((neg_ℤ v -ℤ o) +ℤ pos g) (λ k. h (ap or_zero e ∙ k)) ∙ ap or_zero (sym e)
+    grows ((neg_ℤ v -ℤ o) +ℤ pos g) (λ k. h (ap positive_part e ∙ k)) ∙ ap positive_part (sym e)
 
 -- at the point itself `objective <= v - 1` doesn't hold, so its degree isn't 0
 asks : (p : Point) (ts : List Term) → (at_most_row ts (value_at p ts -ℤ pos 1)).degree ≡ 0 → ⊥

@@ -7,7 +7,7 @@ use Rattle.std.proofs.lemmas.Int.{ints}
 use Rattle.std.proofs.lemmas.Bool.{leb-false, leb-true}
 use Rattle.std.proofs.lemmas.List.Elements.{All-cons, All-contains, Contains-append_right}
 use Rattle.hrt_base.specs.declared.literal.Term.{Term}
-use Rattle.pb_rows.specs.Terms.{PlainRow, coef_sum, negated, opposite_lit, weight}
+use Rattle.pb_rows.specs.Terms.{PlainRow, coef_sum, negated, opposite_lit, positive_part}
 use Rattle.pb_rows.specs.Points.{Point, is_true_at, true_sum, value_at}
 use Rattle.pb_rows.specs.Normal.{joined, net, net_term, normal_form, sizes, var_bound}
 use Rattle.pb_rows.specs.Rows.{holds, opposite_row}
@@ -40,11 +40,11 @@ short-refutes rows row given c h set q =
     let kept : Keeps set row = All-contains (Keeps set) rows row q.kept c in
     absurd (omega (arith, h, kept.unfalsified, nonfalse_sum_le set row.terms))
 
-coef_in_sum : (set : Literals) (ts : List Term) (k : ℕ) (d : Term) → k < length ts → set (opposite_lit (get_or ts k d).lit) ≡ false → weight (get_or ts k d).coef ≤ nonfalse_sum set ts
+coef_in_sum : (set : Literals) (ts : List Term) (k : ℕ) (d : Term) → k < length ts → set (opposite_lit (get_or ts k d).lit) ≡ false → positive_part (get_or ts k d).coef ≤ nonfalse_sum set ts
 coef_in_sum set [] k d h e = absurd (omega arith)
 coef_in_sum set (t ∷ ts) zero d h e = first (set (opposite_lit t.lit)) e
   where
-    first : (b : Bool) → b ≡ false → weight t.coef ≤ (if b then 0 else weight t.coef) + nonfalse_sum set ts
+    first : (b : Bool) → b ≡ false → positive_part t.coef ≤ (if b then 0 else positive_part t.coef) + nonfalse_sum set ts
     first true f = absurd (cc)
     first false f = omega arith
 coef_in_sum set (t ∷ ts) (suc k) d h e = omega (arith, coef_in_sum set ts k d (omega arith) e)

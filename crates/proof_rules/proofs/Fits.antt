@@ -6,14 +6,14 @@ use Rattle.std.proofs.lemmas.Int.{ints}
 use Rattle.std.proofs.lemmas.Bool.{leb-true, le-leb, and_parts, and_from}
 use Rattle.hrt_base.specs.declared.literal.Lit.{Lit}
 use Rattle.hrt_base.specs.declared.literal.Term.{Term}
-use Rattle.pb_rows.specs.Terms.{PlainRow, coef_sum, weight}
+use Rattle.pb_rows.specs.Terms.{PlainRow, coef_sum, positive_part}
 use Rattle.pb_rows.specs.Points.{Point, true_sum, value_at}
-use Rattle.pb_rows.specs.Normal.{all_sizes, gained, normal_form, on_opposites, or_zero, sizes, var_bound}
-use Rattle.pb_rows.specs.Rows.{Fits, IsNormal, literal_row}
+use Rattle.pb_rows.specs.Normal.{all_sizes, gained, normal_form, on_opposites, sizes, var_bound}
+use Rattle.pb_rows.specs.Rows.{Fits, IsWellFormedRow, literal_row}
 use Rattle.pb_rows.specs.Joined.{joined_form, signless_all, turned_sum}
 use Rattle.pb_rows.proofs.ByNets.{holds-normal_form, joined_form_is, joined_rising}
 use Rattle.pb_rows.proofs.Order.{put_all_sum}
-use Rattle.pb_rows.proofs.Signs.{or_zero_le, signless_from, signless_sum, turned_sum_le}
+use Rattle.pb_rows.proofs.Signs.{positive_part_le, signless_from, signless_sum, turned_sum_le}
 use Rattle.pb_rows.proofs.Sums.{true_sum_le}
 use Rattle.proof_rules.specs.Pol.{fits}
 use Rattle.proof_rules.specs.States.{at_most_row, minus_terms}
@@ -31,7 +31,7 @@ true_fits row h =
 
 -- ---- division, saturation, weakening, literals
 
-kept_step : (b : Bool) (t : Term) (kept : List Term) (s : ℕ) → coef_sum kept ≤ s → coef_sum (cond b (t ∷ kept) kept) ≤ weight t.coef + s
+kept_step : (b : Bool) (t : Term) (kept : List Term) (s : ℕ) → coef_sum kept ≤ s → coef_sum (cond b (t ∷ kept) kept) ≤ positive_part t.coef + s
 kept_step true t kept s h = omega (arith, h)
 kept_step false t kept s h = omega (arith, h)
 
@@ -47,7 +47,7 @@ joined-sum : (ts : List Term) (at_least : ℤ) → coef_sum (joined_form ts at_l
 joined-sum ts at_least = omega (arith, put_all_sum 0 [] (signless_all ts) (signless_from ts), signless_sum ts)
 
 joined-degree : (ts : List Term) (at_least : ℤ) → (joined_form ts at_least).degree ≤ all_sizes ts at_least
-joined-degree ts at_least = omega (arith, or_zero_le at_least (turned_sum ts), turned_sum_le ts)
+joined-degree ts at_least = omega (arith, positive_part_le at_least (turned_sum ts), turned_sum_le ts)
 
 pub normal_form-sum : (ts : List Term) (at_least : ℤ) → coef_sum (normal_form ts at_least).terms ≤ sizes ts
 normal_form-sum ts at_least = subst (λ (row : PlainRow). coef_sum row.terms ≤ sizes ts) (joined_form_is ts at_least) (joined-sum ts at_least)
@@ -59,7 +59,7 @@ normal_form-degree ts at_least = subst (λ (row : PlainRow). row.degree ≤ all_
 pub fits-normal_form : (ts : List Term) (at_least : ℤ) → all_sizes ts at_least ≤ 2 ^ 120 → Fits (normal_form ts at_least)
 fits-normal_form ts at_least h = record { sum = omega (arith, h, normal_form-sum ts at_least); degree = omega (arith, h, normal_form-degree ts at_least) }
 
-pub normal_form-rises : (ts : List Term) (at_least : ℤ) → Fits (normal_form ts at_least) → IsNormal (normal_form ts at_least)
+pub normal_form-rises : (ts : List Term) (at_least : ℤ) → Fits (normal_form ts at_least) → IsWellFormedRow (normal_form ts at_least)
 normal_form-rises ts at_least h = record { rising = joined_rising (var_bound ts) ts; fits = h }
 
 -- ---- the row of a solution
@@ -73,13 +73,13 @@ sizes-minus (t ∷ ts) = omega (arith, same_size t.coef, sizes-minus ts)
     same_size (pos (suc n)) = refl
     same_size (negsuc n) = refl
 
-pub or_zero_least : (z : ℤ) (n : ℕ) → z ≤ℤ pos n → or_zero z ≤ n
-or_zero_least (pos m) n h = omega (arith, ints, h)
-or_zero_least (negsuc m) n h = omega arith
+pub positive_part_least : (z : ℤ) (n : ℕ) → z ≤ℤ pos n → positive_part z ≤ n
+positive_part_least (pos m) n h = omega (arith, ints, h)
+positive_part_least (negsuc m) n h = omega arith
 
-one_more : (z : ℤ) → or_zero (z +ℤ pos 1) ≤ or_zero z + 1
+one_more : (z : ℤ) → positive_part (z +ℤ pos 1) ≤ positive_part z + 1
 one_more (pos n) = omega arith
-one_more (negsuc n) = or_zero_least (negsuc n +ℤ pos 1) (0 + 1) (omega (arith, ints))
+one_more (negsuc n) = positive_part_least (negsuc n +ℤ pos 1) (0 + 1) (omega (arith, ints))
 
 pub same_shift : (v o g z : ℤ) → z ≡ (neg_ℤ v -ℤ o) +ℤ g → (neg_ℤ (v -ℤ pos 1) -ℤ o) +ℤ g ≡ z +ℤ pos 1
 same_shift v o g z e = omega (arith, ints)
@@ -106,7 +106,7 @@ fits-at_value p ts h = record { sum = omega (arith, h, at_most-sum ts (value_at 
 less-degree : (p : Point) (ts : List Term) → (at_most_row ts (value_at p ts -ℤ pos 1)).degree ≤ (at_most_row ts (value_at p ts)).degree + 1
 less-degree p ts =
     let g : ℕ = gained (var_bound (minus_terms ts)) (minus_terms ts) in
-    subst (λ (z : ℤ). or_zero z ≤ (at_most_row ts (value_at p ts)).degree + 1)
+    subst (λ (z : ℤ). positive_part z ≤ (at_most_row ts (value_at p ts)).degree + 1)
     (sym (same_shift (value_at p ts) (on_opposites (minus_terms ts)) (pos g) ((neg_ℤ (value_at p ts) -ℤ on_opposites (minus_terms ts)) +ℤ pos g) refl))
     (one_more ((neg_ℤ (value_at p ts) -ℤ on_opposites (minus_terms ts)) +ℤ pos g))
 

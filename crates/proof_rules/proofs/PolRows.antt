@@ -5,7 +5,7 @@ use Rattle.std.specs.List.{AllByRecursion as ByRecursion, list_all}
 use Rattle.std.proofs.lemmas.Bool.{leb-true}
 use Rattle.std.proofs.lemmas.List.Elements.{All-cons, All-nil, All-head, All-tail}
 use Rattle.hrt_base.specs.declared.literal.Lit.{Lit}
-use Rattle.pb_rows.specs.Terms.{PlainRow, weight}
+use Rattle.pb_rows.specs.Terms.{PlainRow, positive_part}
 use Rattle.pb_rows.specs.Rows.{add, divide, literal_row, saturate, times, weaken}
 use Rattle.pb_rows.specs.Formula.{NumberedRow, row_of, rows_of}
 use Rattle.proof_lines.specs.declared.line.PolStep.{PolStep}
@@ -74,8 +74,8 @@ module _ (P : PlainRow → Type 0) (A : Lit → Type 0) (kept : IsKeptBy P A) wh
   step-keeps vars live (Id n) stack out a h k e = live-keeps n.0 (row_of n.0 live) stack out (λ row f. row_of-keeps n.0 live row f h) k e
   step-keeps vars live (Axiom l) stack out a h k e = literal-keeps vars l stack out a k e
   step-keeps vars live Add stack out a h k e = add-keeps stack out k e
-  step-keeps vars live (Times n) stack out a h k e = top-keeps (times (weight n)) (kept.by_times (weight n)) stack out k e
-  step-keeps vars live (Divide n) stack out a h k e = top-keeps (divide (weight n)) (kept.by_divide (weight n)) stack out k e
+  step-keeps vars live (Times n) stack out a h k e = top-keeps (times (positive_part n)) (kept.by_times (positive_part n)) stack out k e
+  step-keeps vars live (Divide n) stack out a h k e = top-keeps (divide (positive_part n)) (kept.by_divide (positive_part n)) stack out k e
   step-keeps vars live Saturate stack out a h k e = top-keeps saturate kept.by_saturate stack out k e
   step-keeps vars live (Weaken v) stack out a h k e =
       top-keeps (weaken v) (kept.by_weaken v) stack out k (made_if (nat_le v vars) (on_top (weaken v) stack) _ out e).1

@@ -6,7 +6,7 @@ use Rattle.std.proofs.lemmas.Int.{ints}
 use Rattle.std.proofs.lemmas.Bool.{leb-true, le-leb}
 use Rattle.std.proofs.lemmas.List.Elements.{All-weaker}
 use Rattle.hrt_base.specs.declared.literal.Term.{Term}
-use Rattle.pb_rows.specs.Terms.{IsPositive, IsRisingFrom, PlainRow, capped, divided, is_over, is_present, reweighed, weight}
+use Rattle.pb_rows.specs.Terms.{IsPositive, IsRisingFrom, PlainRow, capped, divided, is_over, is_present, reweighed, positive_part}
 use Rattle.pb_rows.specs.Points.{Point, is_true_at, true_sum, value_at}
 use Rattle.pb_rows.specs.Normal.{joined, net, net_term, normal_form, var_bound}
 use Rattle.pb_rows.specs.Rows.{add, divide, holds, literal_row}
@@ -69,11 +69,11 @@ unsigned-kept = record {
 
 -- ---- values
 
-weight_is : (z : ℤ) → pos 0 ≤ℤ z → z ≡ pos (weight z)
+weight_is : (z : ℤ) → pos 0 ≤ℤ z → z ≡ pos (positive_part z)
 weight_is (pos n) h = refl
 weight_is (negsuc n) h = absurd (omega (arith, ints))
 
-value_step : (b : Bool) (c : ℤ) (v : ℤ) (s : ℕ) → c ≡ pos (weight c) → v ≡ pos s → (if b then c else pos 0) +ℤ v ≡ pos ((if b then weight c else 0) + s)
+value_step : (b : Bool) (c : ℤ) (v : ℤ) (s : ℕ) → c ≡ pos (positive_part c) → v ≡ pos s → (if b then c else pos 0) +ℤ v ≡ pos ((if b then positive_part c else 0) + s)
 value_step true c v s e h = omega (arith, ints, e)
 value_step false c v s e h = omega (arith, ints)
 
@@ -100,7 +100,7 @@ ceil_some n h = omega (arith, div-zero n, mod-zero n)
 
 some_true : (p : Point) (ts : List Term) → 0 < true_sum p ts → 0 < true_sum p (map (divided 0) ts)
 some_true p [] h = absurd (omega arith)
-some_true p (t ∷ ts) h = at (is_true_at p t.lit) (weight t.coef) (true_sum p ts) _ (some_true p ts) h
+some_true p (t ∷ ts) h = at (is_true_at p t.lit) (positive_part t.coef) (true_sum p ts) _ (some_true p ts) h
   where
     at : (b : Bool) (w s r : ℕ) → (0 < s → 0 < r) → 0 < (if b then w else 0) + s → 0 < (if b then div_ceil w 0 else 0) + r
     at true zero s r more k = omega (arith, more (omega (arith, k)))

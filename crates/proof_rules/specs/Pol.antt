@@ -1,7 +1,7 @@
 -- The stack machine of `pol` lines.
 use Rattle.std.specs.Prelude.{ℕ, ◌^◌, Bool, ◌&&◌, nat_le, if◌then◌else◌, List, [], ◌∷◌, Option, Some, None, Result, Ok, Err}
 use Rattle.std.specs.List.{list_all}
-use Rattle.pb_rows.specs.Terms.{PlainRow, coef_sum, weight}
+use Rattle.pb_rows.specs.Terms.{PlainRow, coef_sum, positive_part}
 use Rattle.pb_rows.specs.Rows.{add, divide, literal_row, saturate, times, weaken}
 use Rattle.pb_rows.specs.Formula.{NumberedRow, row_of}
 use Rattle.proof_lines.specs.declared.line.PolStep.{PolStep}
@@ -40,8 +40,8 @@ abbrev pub run_step : ℕ → List NumberedRow → PolStep → List PlainRow →
 run_step vars live (Id n) stack = push_live n.0 (row_of n.0 live) stack
 run_step vars live (Axiom l) stack = if nat_le l.var vars then Ok (literal_row l ∷ stack) else Err (BadVariable l.var)
 run_step vars live Add stack = add_top stack
-run_step vars live (Times k) stack = on_top (times (weight k)) stack
-run_step vars live (Divide k) stack = on_top (divide (weight k)) stack
+run_step vars live (Times k) stack = on_top (times (positive_part k)) stack
+run_step vars live (Divide k) stack = on_top (divide (positive_part k)) stack
 run_step vars live Saturate stack = on_top saturate stack
 run_step vars live (Weaken v) stack = if nat_le v vars then on_top (weaken v) stack else Err (BadVariable v)
 

@@ -1,7 +1,7 @@
 // The rows of `pol` lines.
 ghost use Rattle.std.specs.Prelude.{◌≡◌, IfErr, IfOk, IsTrue, OnOk, Ok, []};
 ghost use Rattle.std.specs.List.{All, list_all};
-ghost use Rattle.pb_rows.specs.Terms.{IsPositive, weight};
+ghost use Rattle.pb_rows.specs.Terms.{IsPositive, positive_part};
 ghost use Rattle.pb_rows.specs.Rows.{divide, literal_row, saturate, times, weaken};
 ghost use Rattle.pb_rows.specs.Formula.{row_of};
 ghost use Rattle.proof_lines.specs.Spelling.{is_small_step};
@@ -92,8 +92,8 @@ fn add_top(alloc: Global, stack: &mut Stack) -> Result<(), StepRefusal>
 /// Multiplies the upper row.
 fn multiply_top(k: i128, stack: &mut Stack) -> Result<(), StepRefusal>
     requires { IsPositive k }
-    ensures ok { OnOk result (on_top (times (weight k)) stack.old ≡ Ok stack.new) }
-    ensures refused { IfErr result (Refuses (on_top (times (weight k)) stack.old)) }
+    ensures ok { OnOk result (on_top (times (positive_part k)) stack.old ≡ Ok stack.new) }
+    ensures refused { IfErr result (Refuses (on_top (times (positive_part k)) stack.old)) }
 {
     let Some(mut row) = stack.pop() else {
         return Err(StepRefusal::StackShape);
@@ -110,8 +110,8 @@ fn multiply_top(k: i128, stack: &mut Stack) -> Result<(), StepRefusal>
 /// Divides the upper row.
 fn divide_top(k: i128, stack: &mut Stack) -> Result<(), StepRefusal>
     requires { IsPositive k }
-    ensures ok { OnOk result (on_top (divide (weight k)) stack.old ≡ Ok stack.new) }
-    ensures refused { IfErr result (Refuses (on_top (divide (weight k)) stack.old)) }
+    ensures ok { OnOk result (on_top (divide (positive_part k)) stack.old ≡ Ok stack.new) }
+    ensures refused { IfErr result (Refuses (on_top (divide (positive_part k)) stack.old)) }
 {
     let Some(mut row) = stack.pop() else {
         return Err(StepRefusal::StackShape);

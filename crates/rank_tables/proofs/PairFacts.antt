@@ -8,7 +8,7 @@ use Rattle.std.proofs.lemmas.List.Quantifiers.{position-Some}
 use Rattle.std.proofs.lemmas.Option.{slice_get_past, unwrap_or-slice_get}
 use Rattle.std.proofs.lemmas.Bool.{cases_lt, cases_Bool, eqb-true, and_parts}
 use Rattle.rank_tables.specs.Numbers.{below, numbers_to, is_in}
-use Rattle.rank_tables.specs.Instance.{Lists, Pair, no_pair, groups_of_resident, groups_of_hospital, resident_names, hospital_names, pairs_from, pairs, pair_count, pair_at, pair_no, rank_in, rank_by_resident, rank_by_hospital, pairs_of_resident, pairs_of_hospital, pairs_as_listed}
+use Rattle.rank_tables.specs.Instance.{Lists, Pair, no_pair, groups_of_resident, groups_of_hospital, resident_names, hospital_names, pairs_from, pairs, pair_count, pair_at, pair_no, rank_in, rank_by_resident, rank_by_hospital, pairs_of_resident, rising_pairs_of_hospital, pairs_as_listed}
 use Rattle.rank_tables.specs.Tables.{IsPairNo, IsOfResident, IsOfHospital}
 use Rattle.rank_tables.proofs.Below.{numbers_to-within, find-numbers_to, find-filter}
 
@@ -110,8 +110,8 @@ pairs_of_resident-each lists r k d l =
       resident = eqb-true _ _ (filter_passes test all k d l);
     }
 
-pub pairs_of_hospital-each : (lists : Lists) (h : ℕ) → All (IsOfHospital lists h) (pairs_of_hospital lists h)
-pairs_of_hospital-each lists h k d l =
+pub rising_pairs_of_hospital-each : (lists : Lists) (h : ℕ) → All (IsOfHospital lists h) (rising_pairs_of_hospital lists h)
+rising_pairs_of_hospital-each lists h k d l =
     let test : ℕ → Bool = λ p. (pair_at lists p).hospital == h in
     let all = numbers_to (pair_count lists) in
     record {

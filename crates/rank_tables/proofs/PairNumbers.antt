@@ -2,7 +2,7 @@
 use Rattle.std.proofs.Common.{◌≡◌, ℕ, Bool, true, ◌==◌, nat_le, sym, ◌∙◌}
 use Rattle.std.proofs.lemmas.Bool.{and_from, and_parts, eqb-true, le-leb, leb-true}
 use Rattle.rank_tables.specs.Numbers.{numbers_to, is_in}
-use Rattle.rank_tables.specs.Instance.{Lists, pair_at, pair_count, pairs_of_hospital, pairs_of_resident}
+use Rattle.rank_tables.specs.Instance.{Lists, pair_at, pair_count, rising_pairs_of_hospital, pairs_of_resident}
 use Rattle.rank_tables.specs.Tables.{IsPairNo}
 use Rattle.rank_tables.proofs.Numbers.{is_in-filter, is_in-numbers_to}
 
@@ -22,7 +22,7 @@ pair_of_resident lists r p i =
     let two = and_parts (is_pair lists p) ((pair_at lists p).resident == r) (sym (is_in-filter (λ q. (pair_at lists q).resident == r) p (numbers_to (pair_count lists))) ∙ i) in
     (listed_pair lists p two.0, eqb-true _ _ two.1)
 
-pub pair_of_hospital : (lists : Lists) (h p : ℕ) → is_in p (pairs_of_hospital lists h) ≡ true → IsPairNo lists p × ((pair_at lists p).hospital ≡ h)
+pub pair_of_hospital : (lists : Lists) (h p : ℕ) → is_in p (rising_pairs_of_hospital lists h) ≡ true → IsPairNo lists p × ((pair_at lists p).hospital ≡ h)
 pair_of_hospital lists h p i =
     let two = and_parts (is_pair lists p) ((pair_at lists p).hospital == h) (sym (is_in-filter (λ q. (pair_at lists q).hospital == h) p (numbers_to (pair_count lists))) ∙ i) in
     (listed_pair lists p two.0, eqb-true _ _ two.1)

@@ -7,12 +7,12 @@ use Rattle.hrt_base.specs.declared.numbered.PairNo.{PairNo}
 use Rattle.rank_tables.specs.declared.entry.PairEntry.{PairEntry}
 use Rattle.rank_tables.specs.declared.marks.Mark.{Mark}
 use Rattle.rank_tables.specs.Numbers.{below, numbers_to}
-use Rattle.rank_tables.specs.Instance.{Lists, Pair, pairs, pair_count, pair_at, groups_of_hospital, pairs_of_resident, pairs_of_hospital, pairs_as_listed}
+use Rattle.rank_tables.specs.Instance.{Lists, Pair, pairs, pair_count, pair_at, groups_of_hospital, pairs_of_resident, rising_pairs_of_hospital, pairs_as_listed}
 use Rattle.rank_tables.specs.WellFormed.{IsWellFormed}
 use Rattle.rank_tables.specs.Tables.{numbers_of, entry_of}
 use Rattle.rank_tables.specs.Building.{mark_of, numbers_with, marks_with, numbered}
 use Rattle.rank_tables.proofs.Below.{numbers_to-within}
-use Rattle.rank_tables.proofs.PairFacts.{pair_at-acceptable, pairs_of_hospital-each}
+use Rattle.rank_tables.proofs.PairFacts.{pair_at-acceptable, rising_pairs_of_hospital-each}
 use Rattle.rank_tables.proofs.TableFacts.{row-at}
 use Rattle.rank_tables.proofs.TablesMade.{kept_of, entries-made, numbers_with-residents, marks_of_hospital, marks_with-hospitals, listed-made, map_same}
 
@@ -57,8 +57,8 @@ marks-made lists entries e h =
 
 pub marks-declared : (lists : Lists) (h : ℕ) → All (λ (m : Mark). m.number < length lists.residents) (marks_of_hospital lists h)
 marks-declared lists h =
-    All-map (λ (m : Mark). m.number < length lists.residents) (λ p. mark_of (pair_at lists p).resident p) (pairs_of_hospital lists h)
-    (λ k d l. (pair_at-acceptable lists (get_or (pairs_of_hospital lists h) k d) (pairs_of_hospital-each lists h k d l).number).resident_declared)
+    All-map (λ (m : Mark). m.number < length lists.residents) (λ p. mark_of (pair_at lists p).resident p) (rising_pairs_of_hospital lists h)
+    (λ k d l. (pair_at-acceptable lists (get_or (rising_pairs_of_hospital lists h) k d) (rising_pairs_of_hospital-each lists h k d l).number).resident_declared)
 
 -- the hospitals' rows of numbers, by their marks
 pub columns-made : (lists : Lists) → IsWellFormed lists → (marks : ℕ → List Mark) → ((h : ℕ) → marks h ≡ marks_of_hospital lists h) →

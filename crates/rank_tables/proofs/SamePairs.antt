@@ -3,11 +3,11 @@ use Rattle.std.proofs.Common.{◌≡◌, ℕ, zero, suc, ◌≤◌, Bool, true, 
 use Rattle.std.specs.List.{concat, filter, filter_map, cons_option}
 use Rattle.std.proofs.lemmas.Bool.{cases_Bool, cases_eq, and_parts, and_from, ne_eqb, not-true, eqb-false}
 use Rattle.rank_tables.specs.Numbers.{numbers_to, is_in, is_distinct}
-use Rattle.rank_tables.specs.Instance.{Lists, groups_of_hospital, hospital_names, resident_names, pair_count, pair_at, pair_no, pairs_of_hospital, pairs_as_listed}
+use Rattle.rank_tables.specs.Instance.{Lists, groups_of_hospital, hospital_names, resident_names, pair_count, pair_at, pair_no, rising_pairs_of_hospital, pairs_as_listed}
 use Rattle.rank_tables.specs.WellFormed.{IsWellFormed}
 use Rattle.rank_tables.specs.Tables.{IsPairNo, IsOfHospital}
 use Rattle.rank_tables.proofs.Below.{numbers_to-within}
-use Rattle.rank_tables.proofs.PairFacts.{pair_at-acceptable, pair_no-is, pairs_of_hospital-each, pairs_as_listed-each}
+use Rattle.rank_tables.proofs.PairFacts.{pair_at-acceptable, pair_no-is, rising_pairs_of_hospital-each, pairs_as_listed-each}
 use Rattle.rank_tables.proofs.Ranks.{is_in-append, or_false}
 use Rattle.rank_tables.proofs.ListFacts.{is_distinct-filter}
 use Rattle.rank_tables.proofs.TablesMade.{in_all}
@@ -77,15 +77,15 @@ pair_no-of lists w p number =
         let is = pair_no-is lists (pair_at lists p).resident (pair_at lists p).hospital q e in
         e ∙ ap (λ x. Some x) (pairs-apart lists w q p is.0 number is.1 is.2)
 
-pub listed-same : (lists : Lists) → IsWellFormed lists → (h p : ℕ) → is_in p (pairs_as_listed lists h) ≡ is_in p (pairs_of_hospital lists h)
+pub listed-same : (lists : Lists) → IsWellFormed lists → (h p : ℕ) → is_in p (pairs_as_listed lists h) ≡ is_in p (rising_pairs_of_hospital lists h)
 listed-same lists w h p =
     let of_hospital : ℕ → Bool = λ p. (pair_at lists p).hospital == h in
-    same_bool (is_in p (pairs_as_listed lists h)) (is_in p (pairs_of_hospital lists h))
+    same_bool (is_in p (pairs_as_listed lists h)) (is_in p (rising_pairs_of_hospital lists h))
     (λ listed.
     let known = in_all (IsOfHospital lists h) (pairs_as_listed lists h) p (pairs_as_listed-each lists h) listed in
     in_filter of_hospital p (numbers_to (pair_count lists)) (in_numbers_to (pair_count lists) p known.number.0 known.number.1) (eq-eqb _ _ known.hospital))
     (λ numbered.
-    let known = in_all (IsOfHospital lists h) (pairs_of_hospital lists h) p (pairs_of_hospital-each lists h) numbered in
+    let known = in_all (IsOfHospital lists h) (rising_pairs_of_hospital lists h) p (rising_pairs_of_hospital-each lists h) numbered in
     let r = (pair_at lists p).resident in
     let named : hospital_names lists h r ≡ true = subst (λ (k : ℕ). hospital_names lists k r ≡ true) known.hospital (pair_at-acceptable lists p known.number).names_resident in
     let found : pair_no lists r h ≡ Some p = ap (pair_no lists r) (sym known.hospital) ∙ pair_no-of lists w p known.number in
@@ -174,10 +174,10 @@ length-within (x ∷ xs) ys d within =
     absurd_of : (b : Bool) → b ≡ false → b ≡ true → ⊥
     absurd_of b f t = absurd (cc)
 
-pub listed-length : (lists : Lists) → IsWellFormed lists → (h : ℕ) → length (pairs_as_listed lists h) ≡ length (pairs_of_hospital lists h)
+pub listed-length : (lists : Lists) → IsWellFormed lists → (h : ℕ) → length (pairs_as_listed lists h) ≡ length (rising_pairs_of_hospital lists h)
 listed-length lists w h =
     let of_hospital : ℕ → Bool = λ p. (pair_at lists p).hospital == h in
-    let numbered : is_distinct (pairs_of_hospital lists h) ≡ true = is_distinct-filter of_hospital (numbers_to (pair_count lists)) (is_distinct-numbers_to (pair_count lists)) in
-    let one = length-within (pairs_as_listed lists h) (pairs_of_hospital lists h) (listed-distinct lists w h) (λ p here. sym (listed-same lists w h p) ∙ here) in
-    let two = length-within (pairs_of_hospital lists h) (pairs_as_listed lists h) numbered (λ p here. listed-same lists w h p ∙ here) in
+    let numbered : is_distinct (rising_pairs_of_hospital lists h) ≡ true = is_distinct-filter of_hospital (numbers_to (pair_count lists)) (is_distinct-numbers_to (pair_count lists)) in
+    let one = length-within (pairs_as_listed lists h) (rising_pairs_of_hospital lists h) (listed-distinct lists w h) (λ p here. sym (listed-same lists w h p) ∙ here) in
+    let two = length-within (rising_pairs_of_hospital lists h) (pairs_as_listed lists h) numbered (λ p here. listed-same lists w h p ∙ here) in
     omega (arith, one, two)

@@ -12,12 +12,12 @@ use Rattle.hrt_base.specs.declared.numbered.PairNo.{PairNo}
 use Rattle.rank_tables.specs.declared.entry.PairEntry.{PairEntry}
 use Rattle.rank_tables.specs.declared.marks.Mark.{Mark}
 use Rattle.rank_tables.specs.Numbers.{below, numbers_to, is_in}
-use Rattle.rank_tables.specs.Instance.{Lists, Pair, no_pair, groups_of_resident, groups_of_hospital, hospital_names, pairs_from, pairs, pair_count, pair_at, pair_no, pairs_of_resident, pairs_of_hospital, pairs_as_listed}
+use Rattle.rank_tables.specs.Instance.{Lists, Pair, no_pair, groups_of_resident, groups_of_hospital, hospital_names, pairs_from, pairs, pair_count, pair_at, pair_no, pairs_of_resident, rising_pairs_of_hospital, pairs_as_listed}
 use Rattle.rank_tables.specs.WellFormed.{IsWellFormed}
 use Rattle.rank_tables.specs.Tables.{IsOfHospital, numbers_of, entry_of}
 use Rattle.rank_tables.specs.Building.{mark_of, rank_or_0, marked, namings_of, answered, numbers_with, marks_with, numbered}
 use Rattle.rank_tables.proofs.Below.{length-below, length-numbers_to, at_below, at_numbers_to, find-numbers_to, find-filter}
-use Rattle.rank_tables.proofs.PairFacts.{pair_at-place, pair_no-is, pairs_of_hospital-each}
+use Rattle.rank_tables.proofs.PairFacts.{pair_at-place, pair_no-is, rising_pairs_of_hospital-each}
 use Rattle.rank_tables.proofs.Ranks.{rank-positive}
 use Rattle.rank_tables.proofs.Turning.{namings_of-rank}
 use Rattle.rank_tables.proofs.Unique.{resident_ranked, pairs-apart}
@@ -97,7 +97,7 @@ numbers_with-residents lists r =
     ∙ filter_agree (λ p. slice_index residents (p - 1) == r) (λ p. (pair_at lists p).resident == r)
     (λ p. ap (λ x. x == r) (key_at (λ q. q.resident) lists p refl)) (numbers_to (pair_count lists))
 
-numbers_with-hospitals : (lists : Lists) (h : ℕ) → numbers_with (map (λ (q : Pair). q.hospital) (pairs lists)) h ≡ pairs_of_hospital lists h
+numbers_with-hospitals : (lists : Lists) (h : ℕ) → numbers_with (map (λ (q : Pair). q.hospital) (pairs lists)) h ≡ rising_pairs_of_hospital lists h
 numbers_with-hospitals lists h =
     let hospitals = map (λ (q : Pair). q.hospital) (pairs lists) in
     ap (λ n. filter (λ p. slice_index hospitals (p - 1) == h) (numbers_to n)) (length-map (pairs lists) (λ (q : Pair). q.hospital))
@@ -106,7 +106,7 @@ numbers_with-hospitals lists h =
 
 -- the marks of a hospital's pairs
 abbrev pub marks_of_hospital : Lists → ℕ → List Mark
-marks_of_hospital lists h = map (λ p. mark_of (pair_at lists p).resident p) (pairs_of_hospital lists h)
+marks_of_hospital lists h = map (λ p. mark_of (pair_at lists p).resident p) (rising_pairs_of_hospital lists h)
 
 pub map_same : {A B : Type 0} (f g : A → B) → ((x : A) → f x ≡ g x) → (xs : List A) → map f xs ≡ map g xs
 map_same f g e [] = refl
@@ -178,7 +178,7 @@ and_other false true = refl
 and_other false false = refl
 
 -- the number of the pair of a resident is the first among those of the hospital's pairs
-pair_no-by_hospital : (lists : Lists) (r h : ℕ) → pair_no lists r h ≡ find (λ p. (pair_at lists p).resident == r) (pairs_of_hospital lists h)
+pair_no-by_hospital : (lists : Lists) (r h : ℕ) → pair_no lists r h ≡ find (λ p. (pair_at lists p).resident == r) (rising_pairs_of_hospital lists h)
 pair_no-by_hospital lists r h =
     let of_resident : ℕ → Bool = λ p. (pair_at lists p).resident == r in
     let of_hospital : ℕ → Bool = λ p. (pair_at lists p).hospital == h in
@@ -209,13 +209,13 @@ in_all P xs x all h =
 pub listed-made : (lists : Lists) → IsWellFormed lists → (h : ℕ) → numbered (groups_of_hospital lists h) (marks_of_hospital lists h) ≡ pairs_as_listed lists h
 unfolding AreOne
 listed-made lists w h =
-    let all = pairs_of_hospital-each lists h in
-    let one : (r : ℕ) → AreOne lists r (pairs_of_hospital lists h) = λ r p q in_p in_q of_p of_q.
-    let a = in_all (IsOfHospital lists h) (pairs_of_hospital lists h) p all in_p in
-    let b = in_all (IsOfHospital lists h) (pairs_of_hospital lists h) q all in_q in
+    let all = rising_pairs_of_hospital-each lists h in
+    let one : (r : ℕ) → AreOne lists r (rising_pairs_of_hospital lists h) = λ r p q in_p in_q of_p of_q.
+    let a = in_all (IsOfHospital lists h) (rising_pairs_of_hospital lists h) p all in_p in
+    let b = in_all (IsOfHospital lists h) (rising_pairs_of_hospital lists h) q all in_q in
     pairs-apart lists w p q a.number b.number (of_p ∙ sym of_q) (a.hospital ∙ sym b.hospital) in
     numbered-listed lists h (marks_of_hospital lists h) (concat (groups_of_hospital lists h))
-    (λ r. last_is_first lists r (pairs_of_hospital lists h) 0 (one r) ∙ ap (λ o. unwrap_or o 0) (sym (pair_no-by_hospital lists r h)))
+    (λ r. last_is_first lists r (rising_pairs_of_hospital lists h) 0 (one r) ∙ ap (λ o. unwrap_or o 0) (sym (pair_no-by_hospital lists r h)))
 
 -- rows that are known one by one
 pub rows-made : (rows : List (List PairNo)) (g : ℕ → List ℕ) (n : ℕ) → length rows ≡ n → ((r : ℕ) → numbers_of (get_or rows r []) ≡ g r) →

@@ -8,7 +8,7 @@ use Rattle.rank_tables.specs.declared.terms.Ranked.{Ranked}
 use Rattle.rank_tables.specs.declared.terms.Side.{Side}
 use Rattle.rank_tables.specs.declared.terms.Side.TheVariants.{Resident, Hospital}
 use Rattle.rank_tables.specs.Numbers.{below, numbers_to, is_in}
-use Rattle.rank_tables.specs.Instance.{Lists, pair_at, pair_count, pairs_as_listed, pairs_of_hospital, pairs_of_resident, rank_by_hospital, rank_by_resident}
+use Rattle.rank_tables.specs.Instance.{Lists, pair_at, pair_count, pairs_as_listed, rising_pairs_of_hospital, pairs_of_resident, rank_by_hospital, rank_by_resident}
 use Rattle.rank_tables.specs.WellFormed.{IsWellFormed}
 use Rattle.rank_tables.specs.Tables.{IsPairNo, entry_of}
 use Rattle.rank_tables.specs.Terms.{has_post, has_term, is_as_good_for_hospital, is_as_good_for_resident, model_terms}
@@ -49,7 +49,7 @@ unfolding AreOfKinds
 of_hospitals lists w h f =
     let ns = numbers_to (pair_count lists) in
     let of_hospital : ℕ → Bool = λ p. (pair_at lists p).hospital == h in
-    let numbered = pairs_of_hospital lists h in
+    let numbered = rising_pairs_of_hospital lists h in
     let listed = pairs_as_listed lists h in
     let distinct = distinct-numbers_to (pair_count lists) in
     let inside : list_all (λ x. is_in x ns) numbered ≡ true = all_from _ numbered (λ x i. (and_parts (is_in x ns) (of_hospital x) (sym (is_in-filter of_hospital x ns) ∙ i)).0) in

@@ -3,7 +3,7 @@ use Rattle.std.proofs.Common.{◌≡◌, ℕ, true, false, List, [], ◌∷◌, 
 use Rattle.rank_tables.specs.declared.draft.DraftResident.{DraftResident}
 use Rattle.rank_tables.specs.declared.draft.DraftHospital.{DraftHospital}
 use Rattle.rank_tables.specs.Numbers.{numbers_to}
-use Rattle.rank_tables.specs.Instance.{Lists, pair_no, pairs, pair_count, rank_by_resident, rank_by_hospital, pairs_of_resident, pairs_of_hospital, pairs_as_listed, one_sided}
+use Rattle.rank_tables.specs.Instance.{Lists, pair_no, pairs, pair_count, rank_by_resident, rank_by_hospital, pairs_of_resident, rising_pairs_of_hospital, pairs_as_listed, one_sided}
 use Rattle.rank_tables.specs.Terms.{model_terms}
 use Rattle.rank_tables.specs.Stability.{is_weakly_stable, blocks}
 use Rattle.rank_tables.specs.WellFormed.{IsWellFormed, is_list}
@@ -166,7 +166,7 @@ mixed = record {
 pub mixed-number : pair_no mixed 1 0 ≡ Some 5
 mixed-number = refl
 
-pub mixed-by_number : pairs_of_hospital mixed 0 ≡ 1 ∷ 5 ∷ 6 ∷ []
+pub mixed-by_number : rising_pairs_of_hospital mixed 0 ≡ 1 ∷ 5 ∷ 6 ∷ []
 mixed-by_number = refl
 
 pub mixed-as_listed : pairs_as_listed mixed 0 ≡ 5 ∷ 1 ∷ 6 ∷ []

@@ -83,8 +83,8 @@ abbrev pub pairs_of_resident : Lists → ℕ → List ℕ
 pairs_of_resident lists r = filter (λ p. (pair_at lists p).resident == r) (numbers_to (pair_count lists))
 
 -- the numbers of a hospital's pairs, rising
-abbrev pub pairs_of_hospital : Lists → ℕ → List ℕ
-pairs_of_hospital lists h = filter (λ p. (pair_at lists p).hospital == h) (numbers_to (pair_count lists))
+abbrev pub rising_pairs_of_hospital : Lists → ℕ → List ℕ
+rising_pairs_of_hospital lists h = filter (λ p. (pair_at lists p).hospital == h) (numbers_to (pair_count lists))
 
 -- the numbers of a hospital's pairs in the order of its list
 abbrev pub pairs_as_listed : Lists → ℕ → List ℕ

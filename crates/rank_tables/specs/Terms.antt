@@ -1,7 +1,7 @@
 -- How many terms the rows of the 0/1 model of an instance have.
 use Rattle.std.specs.Prelude.{ℕ, ◌+◌, Bool, ◌&&◌, ◌||◌, ◌==◌, nat_le, nat_lt, length, count_by, sum_by}
 use Rattle.rank_tables.specs.Numbers.{below, numbers_to}
-use Rattle.rank_tables.specs.Instance.{Lists, capacity_of, pair_at, pair_count, pairs_of_hospital, pairs_of_resident, rank_by_hospital, rank_by_resident}
+use Rattle.rank_tables.specs.Instance.{Lists, capacity_of, pair_at, pair_count, rising_pairs_of_hospital, pairs_of_resident, rank_by_hospital, rank_by_resident}
 
 -- whether q is a pair of the resident of p, which ranks it at least as high as p
 abbrev pub is_as_good_for_resident : Lists → ℕ → ℕ → Bool
@@ -24,5 +24,5 @@ has_term lists p q = q == p || (has_post lists p && (is_as_good_for_resident lis
 abbrev pub model_terms : Lists → ℕ
 model_terms lists =
     sum_by (λ r. length (pairs_of_resident lists r)) (below (length lists.residents))
-    + sum_by (λ h. length (pairs_of_hospital lists h)) (below (length lists.hospitals))
+    + sum_by (λ h. length (rising_pairs_of_hospital lists h)) (below (length lists.hospitals))
     + sum_by (λ p. count_by (has_term lists p) (numbers_to (pair_count lists))) (numbers_to (pair_count lists))

@@ -1,6 +1,6 @@
 // An instance: the written lists, and tables over them.
 ghost use Rattle.std.specs.Prelude.{◌≡◌, ℕ, IsTrue, ◌+◌, ◌<◌, ◌≤◌, length, map, All, option_map, slice_get, nat_lt, Some, IfSome, is_some, ◌&&◌, IfOk, IsOk, IfErr};
-ghost use Rattle.rank_tables.specs.Instance.{Lists, lists_of, pair_count, pair_at, pair_no, rank_by_resident, rank_by_hospital, pairs_of_resident, pairs_of_hospital, pairs_as_listed, one_sided, capacity_of, groups_of_resident, groups_of_hospital, resident_names, hospital_names};
+ghost use Rattle.rank_tables.specs.Instance.{Lists, lists_of, pair_count, pair_at, pair_no, rank_by_resident, rank_by_hospital, pairs_of_resident, rising_pairs_of_hospital, pairs_as_listed, one_sided, capacity_of, groups_of_resident, groups_of_hospital, resident_names, hospital_names};
 ghost use Rattle.rank_tables.specs.Numbers.{is_in, is_distinct};
 ghost use Rattle.rank_tables.specs.WellFormed.{IsWellFormed, names_of_residents, names_of_hospitals, most_residents, most_hospitals, most_capacity, most_pairs, most_terms};
 ghost use Rattle.rank_tables.specs.Tables.{IsPairNo, IsOfResident, IsOfHospital, numbers_of, entry_of};
@@ -244,8 +244,8 @@ impl Instance {
         requires { h < length self.now.hospitals }
         ensures numbers { numbers_of result.now ≡ pairs_as_listed self.now h }
         ensures each { All (λ p. IsOfHospital self.now h p.0) result.now }
-        ensures same { (p : ℕ) → is_in p (numbers_of result.now) ≡ is_in p (pairs_of_hospital self.now h) }
-        ensures count { length result.now ≡ length (pairs_of_hospital self.now h) }
+        ensures same { (p : ℕ) → is_in p (numbers_of result.now) ≡ is_in p (rising_pairs_of_hospital self.now h) }
+        ensures count { length result.now ≡ length (rising_pairs_of_hospital self.now h) }
         ensures distinct { IsTrue (is_distinct (numbers_of result.now)) }
     {
         &self.tables.by_hospital[h as usize]

@@ -7,7 +7,7 @@ use Rattle.std.proofs.lemmas.List.Folds.{list_any-append}
 use Rattle.std.proofs.lemmas.List.Elements.{All-contains, All-more, All-weaker}
 use Rattle.hrt_base.specs.declared.literal.Lit.{Lit}
 use Rattle.hrt_base.specs.declared.literal.Term.{Term}
-use Rattle.pb_rows.specs.Terms.{PlainRow, opposite_lit, weight}
+use Rattle.pb_rows.specs.Terms.{PlainRow, opposite_lit, positive_part}
 use Rattle.pb_rows.specs.Closure.{Keeps, Literals, Refuted, among, is_same_lit, nonfalse_share, nonfalse_sum}
 use Rattle.rup_engine.specs.Propagation.{AddsFollowing, Follows, Grows, IsOpen, IsSettledAt, TakesTerm}
 use Rattle.rup_engine.proofs.Sets.{among-cases, among-new}
@@ -26,25 +26,25 @@ module _ (s t : Literals) (within : Within s t) where
   -- a greater set makes more literals false
   pub nonfalse_sum-anti : (ts : List Term) → nonfalse_sum t ts ≤ nonfalse_sum s ts
   nonfalse_sum-anti [] = omega arith
-  nonfalse_sum-anti (x ∷ ts) = omega (arith, share_anti (s (opposite_lit x.lit)) (t (opposite_lit x.lit)) (weight x.coef) (within (opposite_lit x.lit)), nonfalse_sum-anti ts)
+  nonfalse_sum-anti (x ∷ ts) = omega (arith, share_anti (s (opposite_lit x.lit)) (t (opposite_lit x.lit)) (positive_part x.coef) (within (opposite_lit x.lit)), nonfalse_sum-anti ts)
 
   -- where it makes a term's literal false that the smaller one leaves, the sum falls by the coefficient
   nonfalse_sum-less : (ts : List Term) (k : ℕ) (x : Term) → k < length ts → get_or ts k x ≡ x → s (opposite_lit x.lit) ≡ false → t (opposite_lit x.lit) ≡ true
-      → nonfalse_sum t ts + weight x.coef ≤ nonfalse_sum s ts
+      → nonfalse_sum t ts + positive_part x.coef ≤ nonfalse_sum s ts
   nonfalse_sum-less [] k x h at a b = absurd (omega arith)
   nonfalse_sum-less (y ∷ ts) zero x h at a b =
       let same : y ≡ x = at in
       let low : nonfalse_share t x ≡ 0 = rw b refl in
-      let high : nonfalse_share s x ≡ weight x.coef = rw a refl in
+      let high : nonfalse_share s x ≡ positive_part x.coef = rw a refl in
       rw same (omega (arith, low, high, nonfalse_sum-anti ts))
   nonfalse_sum-less (y ∷ ts) (suc k) x h at a b =
-      omega (arith, share_anti (s (opposite_lit y.lit)) (t (opposite_lit y.lit)) (weight y.coef) (within (opposite_lit y.lit)), nonfalse_sum-less ts k x (omega arith) at a b)
+      omega (arith, share_anti (s (opposite_lit y.lit)) (t (opposite_lit y.lit)) (positive_part y.coef) (within (opposite_lit y.lit)), nonfalse_sum-less ts k x (omega arith) at a b)
 
   -- what a row propagates is in each greater set that keeps the row
   pub open_within : (r : PlainRow) (sum : ℕ) (x : Term) → Keeps t r → Contains r.terms x → nonfalse_sum s r.terms ≤ sum → IsOpen s sum r.degree x → t x.lit ≡ true
   open_within r sum x kept c below o = elim (cases_Bool (t (opposite_lit x.lit))) [
     | inl e ↦ absurd (omega (arith, o.exceeds, kept.unfalsified, nonfalse_sum-less r.terms c.0 x c.1 c.2 o.unfalse e))
-    | inr e ↦ All-contains (λ (y : Term). t (opposite_lit y.lit) ≡ false → nonfalse_sum t r.terms < r.degree + weight y.coef → t y.lit ≡ true) r.terms x kept.settled c e
+    | inr e ↦ All-contains (λ (y : Term). t (opposite_lit y.lit) ≡ false → nonfalse_sum t r.terms < r.degree + positive_part y.coef → t y.lit ≡ true) r.terms x kept.settled c e
         (omega (arith, o.exceeds, nonfalse_sum-anti r.terms))
   ]
 

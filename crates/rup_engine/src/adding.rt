@@ -2,7 +2,7 @@
 ghost use Rattle.std.specs.Prelude.{◌≡◌, ◌≤◌, ◌<◌, ◌+◌, ◌^◌, [], ◌∷◌, ◌++◌, ℕ, ◌↔◌, Some, None, IsTrue, IsFalse, IfNone, IfOk, IfSome, OnOk, OnErr, length, slice_set};
 ghost use Rattle.std.specs.List.{All};
 ghost use Rattle.std.specs.Option.{option_copied};
-ghost use Rattle.pb_rows.specs.Terms.{IsPositive, coef_sum, weight};
+ghost use Rattle.pb_rows.specs.Terms.{IsPositive, coef_sum, positive_part};
 ghost use Rattle.pb_rows.specs.Closure.{none};
 ghost use Rattle.pb_rows.specs.Formula.{is_numbered, row_of, without};
 ghost use Rattle.rup_engine.specs.Live.{IsOver};
@@ -48,7 +48,7 @@ pub fn row_at(slots: &[Option<Slot>], place: usize, _id: RowNo) -> Option<&Row>
 fn any_exceeds(terms: &[Term], sum: u128, degree: u128) -> bool
     requires positive { All (λ t. IsPositive t.coef) terms.now }
     requires degree { degree < 2 ^ 127 }
-    ensures { IsFalse result → All (λ t. degree + weight t.coef ≤ sum) terms.now }
+    ensures { IsFalse result → All (λ t. degree + positive_part t.coef ≤ sum) terms.now }
 {
     for t in terms {
         if sum < degree + weight_of(*t) {

@@ -12,7 +12,7 @@ use Rattle.rank_tables.specs.Tables.{numbers_of}
 use Rattle.rank_tables.proofs.Numbers.{list_any-count}
 use Rattle.stability_audit.proofs.Pairs.{numbers_more, numbers_few}
 use Rattle.stability_audit.specs.declared.tally.Tally.{Tally}
-use Rattle.stability_audit.specs.Tallies.{no_pair, one_more, wants, tally_of, IsTallied}
+use Rattle.stability_audit.specs.Tallies.{empty_tally, one_more, wants, tally_of, IsTallied}
 
 -- ---- a tally
 
@@ -45,7 +45,7 @@ tally_count owner rank (q ∷ m) k =
     count_step (owner q == k) (tally_of owner rank m k) (rank q) _ (tally_count owner rank m k)
     ∙ sym (sum_by-cons (λ q. if owner q == k then 1 else 0) q m)
 
-pub tally_none : (owner rank : ℕ → ℕ) (m : List ℕ) (k : ℕ) → list_any (λ q. owner q == k) m ≡ false → tally_of owner rank m k ≡ no_pair
+pub tally_none : (owner rank : ℕ → ℕ) (m : List ℕ) (k : ℕ) → list_any (λ q. owner q == k) m ≡ false → tally_of owner rank m k ≡ empty_tally
 tally_none owner rank [] k h = refl
 tally_none owner rank (q ∷ m) k h =
     let both = or_parts (owner q == k) (list_any (λ q. owner q == k) m) h in
@@ -65,10 +65,10 @@ pub any_worse : (owner rank : ℕ → ℕ) (m : List ℕ) (k x : ℕ) → list_a
 any_worse owner rank [] k x = sym (le-ltb x 0 (omega arith))
 any_worse owner rank (q ∷ m) k x = worse_step (owner q == k) x (rank q) (tally_of owner rank m k) _ (any_worse owner rank m k x)
 
-one_pair : (x r : ℕ) → (nat_lt x r && wants no_pair 1 x) ≡ wants (one_more no_pair r) 1 x
+one_pair : (x r : ℕ) → (nat_lt x r && wants empty_tally 1 x) ≡ wants (one_more empty_tally r) 1 x
 one_pair x r = grind (arith, nat_tests)
 
-better_step : (b : Bool) (x r : ℕ) (t : Tally) (all : Bool) → (b ≡ true → t ≡ no_pair) → all ≡ wants t 1 x →
+better_step : (b : Bool) (x r : ℕ) (t : Tally) (all : Bool) → (b ≡ true → t ≡ empty_tally) → all ≡ wants t 1 x →
     ((not b || nat_lt x r) && all) ≡ wants (cond b (one_more t r) t) 1 x
 better_step true x r t all h e =
     ap (λ c. nat_lt x r && c) (e ∙ ap (λ u. wants u 1 x) (h refl)) ∙ one_pair x r ∙ ap (λ u. wants (one_more u r) 1 x) (sym (h refl))
@@ -92,7 +92,7 @@ all_worse owner rank (q ∷ m) k x h =
 
 -- with a pair q more
 pub tallied_more : (owner rank : ℕ → ℕ) (m : List ℕ) (count : ℕ) (table : List Tally) (q : ℕ) (tally : Tally) →
-    IsTallied owner rank m count table → owner q < count → tally ≡ one_more (get_or table (owner q) no_pair) (rank q) →
+    IsTallied owner rank m count table → owner q < count → tally ≡ one_more (get_or table (owner q) empty_tally) (rank q) →
     IsTallied owner rank (m ++ q ∷ []) count (set table (owner q) tally)
 tallied_more owner rank m count table q tally h l e = record {
   size = length-set table (owner q) tally ∙ h.size;
@@ -100,11 +100,11 @@ tallied_more owner rank m count table q tally h l e = record {
     | inl here ↦
         let is : owner q ≡ k = eqb-true (owner q) k here in
         let within : owner q < length table = omega (arith, h.size) in
-        ap (λ j. get_or (set table (owner q) tally) j no_pair) (sym is)
-        ∙ get_or-set_same table (owner q) tally no_pair within ∙ e ∙ ap (λ t. one_more t (rank q)) (ap (λ j. get_or table j no_pair) is ∙ h.each k less)
+        ap (λ j. get_or (set table (owner q) tally) j empty_tally) (sym is)
+        ∙ get_or-set_same table (owner q) tally empty_tally within ∙ e ∙ ap (λ t. one_more t (rank q)) (ap (λ j. get_or table j empty_tally) is ∙ h.each k less)
         ∙ sym (tally_push owner rank m q k ∙ cond-true (owner q == k) _ _ here)
     | inr other ↦
-        get_or-set_other table (owner q) k tally no_pair (λ is. eqb-false (owner q) k other (sym is))
+        get_or-set_other table (owner q) k tally empty_tally (λ is. eqb-false (owner q) k other (sym is))
         ∙ h.each k less ∙ sym (tally_push owner rank m q k ∙ cond-false (owner q == k) _ _ other)
   ];
 }
@@ -117,8 +117,8 @@ pub tallied_next : (owner rank : ℕ → ℕ) (pairs : List PairNo) (i : ℕ) (d
 tallied_next owner rank pairs i d count table k x old tally h l less e f read new =
     let q = (get_or pairs i d).0 in
     let within : k < length table = omega (arith, h.size) in
-    let is : tally ≡ one_more (get_or table (owner q) no_pair) (rank q) =
-    new ∙ ap₂ one_more (get_or_read table k old within read no_pair ∙ ap (λ j. get_or table j no_pair) e) f in
+    let is : tally ≡ one_more (get_or table (owner q) empty_tally) (rank q) =
+    new ∙ ap₂ one_more (get_or_read table k old within read empty_tally ∙ ap (λ j. get_or table j empty_tally) e) f in
     subst (λ (m : List ℕ). IsTallied owner rank m count (set table k tally)) (sym (numbers_more pairs i d l))
     (subst (λ (j : ℕ). IsTallied owner rank (numbers_of (take i pairs) ++ q ∷ []) count (set table j tally)) (sym e)
     (tallied_more owner rank (numbers_of (take i pairs)) count table q tally h (subst (λ (j : ℕ). j < count) e less) is))
@@ -128,7 +128,7 @@ pub read_count : (owner rank : ℕ → ℕ) (m : List ℕ) (count : ℕ) (table 
     IsTallied owner rank m count table → k < count → tally ≡ get_or table k tally → tally.count ≡ count_by (λ q. owner q == k) m
 read_count owner rank m count table k tally h l read =
     let within : k < length table = omega (arith, h.size) in
-    ap (λ (t : Tally). t.count) (get_or_read table k tally within read no_pair ∙ h.each k l) ∙ tally_count owner rank m k
+    ap (λ (t : Tally). t.count) (get_or_read table k tally within read empty_tally ∙ h.each k l) ∙ tally_count owner rank m k
 
 pub read_small : (owner rank : ℕ → ℕ) (pairs : List PairNo) (i count : ℕ) (table : List Tally) (k : ℕ) (tally : Tally) →
     IsTallied owner rank (numbers_of (take i pairs)) count table → k < count → tally ≡ get_or table k tally → tally.count ≤ i
@@ -143,13 +143,13 @@ read_small owner rank pairs i count table k tally h l read =
 -- whoever has none of the pairs m has a clear tally
 pub record IsClearBut (owner : ℕ → ℕ) (m : List ℕ) (count : ℕ) (table : List Tally) : Type 0 where
   pub size : length table ≡ count
-  pub each : (k : ℕ) → list_any (λ q. owner q == k) m ≡ false → get_or table k no_pair ≡ no_pair
+  pub each : (k : ℕ) → list_any (λ q. owner q == k) m ≡ false → get_or table k empty_tally ≡ empty_tally
 
 pub clear_but_all : (owner rank : ℕ → ℕ) (m : List ℕ) (count : ℕ) (table : List Tally) → IsTallied owner rank m count table → IsClearBut owner m count table
 clear_but_all owner rank m count table h = record {
   size = h.size;
   each = λ k none. elim (cases_lt k count) [
     | inl less ↦ h.each k less ∙ tally_none owner rank m k none
-    | inr past ↦ get_or_past table k no_pair (omega (arith, h.size))
+    | inr past ↦ get_or_past table k empty_tally (omega (arith, h.size))
   ];
 }

@@ -14,7 +14,7 @@ use Rattle.rank_tables.proofs.Membership.{matching_parts}
 use Rattle.rank_tables.proofs.PairFacts.{pair_at-acceptable}
 use Rattle.stability_audit.specs.declared.tally.Tally.{Tally}
 use Rattle.stability_audit.specs.declared.verdict.Verdict.TheVariants.{Stable}
-use Rattle.stability_audit.specs.Tallies.{no_pair, wants, resident_of, hospital_of, AreTallied, both_want}
+use Rattle.stability_audit.specs.Tallies.{empty_tally, wants, resident_of, hospital_of, AreTallied, both_want}
 use Rattle.stability_audit.specs.Verdict.{ArePairs, resident_twice, hospital_over, blocking_pair, first_reason, verdict_of}
 use Rattle.stability_audit.proofs.Tallying.{tally_count, any_worse, all_worse}
 use Rattle.stability_audit.proofs.Least.{none_passes, none_found, find_same, IsLeast, owns, least_found}
@@ -135,10 +135,10 @@ both_want_blocks lists m residents hospitals p tables none number =
     let declared = pair_at-acceptable lists p number in
     let r = resident_of lists p in
     let h = hospital_of lists p in
-    let of_resident : wants (get_or residents r no_pair) 1 (rank_by_resident lists p) ≡ resident_wants lists m p =
+    let of_resident : wants (get_or residents r empty_tally) 1 (rank_by_resident lists p) ≡ resident_wants lists m p =
     ap (λ t. wants t 1 (rank_by_resident lists p)) (tables.of_residents.each r declared.resident_declared)
     ∙ sym (all_worse (resident_of lists) (rank_by_resident lists) m r (rank_by_resident lists p) (once lists m r none declared.resident_declared)) in
-    let of_hospital : wants (get_or hospitals h no_pair) (capacity_of lists h) (rank_by_hospital lists p) ≡ hospital_wants lists m p =
+    let of_hospital : wants (get_or hospitals h empty_tally) (capacity_of lists h) (rank_by_hospital lists p) ≡ hospital_wants lists m p =
     ap (λ t. wants t (capacity_of lists h) (rank_by_hospital lists p)) (tables.of_hospitals.each h declared.hospital_declared)
     ∙ ap₂ ◌||◌ (ap (λ u. nat_lt u (capacity_of lists h)) (tally_count (hospital_of lists) (rank_by_hospital lists) m h))
     (sym (any_worse (hospital_of lists) (rank_by_hospital lists) m h (rank_by_hospital lists p))) in

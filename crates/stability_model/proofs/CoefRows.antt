@@ -3,7 +3,8 @@ use Rattle.std.proofs.Common.{◌≡◌, ℕ, zero, suc, ◌-◌, ◌≤◌, Boo
 use Rattle.std.proofs.lemmas.Int.{ints}
 use Rattle.std.proofs.lemmas.Bool.{and_parts, eq-eqb, eqb-true, leb-true, ltb-false, not-true, or_left, or_right}
 use Rattle.hrt_base.specs.declared.literal.Term.{Term}
-use Rattle.pb_rows.specs.Normal.{negative_part, net, normal_form, on_opposites, or_zero, var_bound}
+use Rattle.pb_rows.specs.Terms.{positive_part}
+use Rattle.pb_rows.specs.Normal.{negative_part, net, normal_form, on_opposites, var_bound}
 use Rattle.pb_rows.specs.Rows.{in_normal_form}
 use Rattle.pb_rows.proofs.Coefs.{coef_row, coef_terms-same, minus_sum, normal_form-coefs}
 use Rattle.rank_tables.specs.Numbers.{is_distinct, is_in, numbers_to}
@@ -50,12 +51,12 @@ over-bound g (q ∷ ps) n h =
     omega arith
 
 pub over-row : (g : ℕ → ℤ) (ps : List ℕ) (n : ℕ) (a : ℤ) → is_distinct ps ≡ true → ((v : ℕ) → is_in v ps ≡ true → v ≤ n) →
-    normal_form (over g ps) a ≡ coef_row (suc n) (coefs_over g ps) (or_zero (a +ℤ pos (minus_sum (suc n) (coefs_over g ps))))
+    normal_form (over g ps) a ≡ coef_row (suc n) (coefs_over g ps) (positive_part (a +ℤ pos (minus_sum (suc n) (coefs_over g ps))))
 over-row g ps n a d h =
     let none = over-opposites g ps in
     let e : a -ℤ on_opposites (over g ps) ≡ a = omega (arith, ints) in
     normal_form-coefs (suc n) (coefs_over g ps) (over g ps) a (over-bound g ps n h) (λ v l. over-nets g ps v d)
-    ∙ ap (λ z. coef_row (suc n) (coefs_over g ps) (or_zero (z +ℤ pos (minus_sum (suc n) (coefs_over g ps))))) e
+    ∙ ap (λ z. coef_row (suc n) (coefs_over g ps) (positive_part (z +ℤ pos (minus_sum (suc n) (coefs_over g ps))))) e
 
 -- ---- over the pairs that pass a test
 
@@ -65,7 +66,7 @@ filtered_within t n v i =
     leb-true v n (and_parts (nat_le 1 v) (nat_le v n) (sym (is_in-numbers_to n v) ∙ here.0)).1
 
 pub filtered_row : (g : ℕ → ℤ) (t : ℕ → Bool) (n : ℕ) (a : ℤ) →
-    normal_form (over g (filter t (numbers_to n))) a ≡ coef_row (suc n) (coefs_over g (filter t (numbers_to n))) (or_zero (a +ℤ pos (minus_sum (suc n) (coefs_over g (filter t (numbers_to n))))))
+    normal_form (over g (filter t (numbers_to n))) a ≡ coef_row (suc n) (coefs_over g (filter t (numbers_to n))) (positive_part (a +ℤ pos (minus_sum (suc n) (coefs_over g (filter t (numbers_to n))))))
 filtered_row g t n a = over-row g (filter t (numbers_to n)) n a (distinct-filter t (numbers_to n) (distinct-numbers_to n)) (λ v i. filtered_within t n v i)
 
 -- ---- rows of at most so many
@@ -73,14 +74,14 @@ filtered_row g t n a = over-row g (filter t (numbers_to n)) n a (distinct-filter
 abbrev pub minus_one : ℕ → ℤ
 minus_one v = neg_ℤ (pos 1)
 
-or_zero-less : (c m : ℕ) → or_zero (neg_ℤ (pos c) +ℤ pos m) ≡ m - c
-or_zero-less c m = grind (arith, ints)
+positive_part-less : (c m : ℕ) → positive_part (neg_ℤ (pos c) +ℤ pos m) ≡ m - c
+positive_part-less c m = grind (arith, ints)
 
 pub at_most-row : (c : ℕ) (t : ℕ → Bool) (n : ℕ) → in_normal_form (at_most c (filter t (numbers_to n)))
     ≡ coef_row (suc n) (coefs_over minus_one (filter t (numbers_to n))) (minus_sum (suc n) (coefs_over minus_one (filter t (numbers_to n))) - c)
 at_most-row c t n =
     filtered_row minus_one t n (neg_ℤ (pos c))
-    ∙ ap (coef_row (suc n) (coefs_over minus_one (filter t (numbers_to n)))) (or_zero-less c (minus_sum (suc n) (coefs_over minus_one (filter t (numbers_to n)))))
+    ∙ ap (coef_row (suc n) (coefs_over minus_one (filter t (numbers_to n)))) (positive_part-less c (minus_sum (suc n) (coefs_over minus_one (filter t (numbers_to n)))))
 
 -- ---- rows of pairs
 
@@ -115,6 +116,6 @@ pair_row-coefs lists p =
     let ps : List ℕ = filter (λ q. nat_lt 0 (stability_coef lists p q)) (numbers_to (pair_count lists)) in
     let none : minus_sum (suc (pair_count lists)) (coefs_over g ps) ≡ 0 = none_negative (suc (pair_count lists)) (coefs_over g ps) (λ v. not_negative (is_in v ps) (stability_coef lists p v)) in
     filtered_row g (λ q. nat_lt 0 (stability_coef lists p q)) (pair_count lists) (pos (capacity_of lists (pair_at lists p).hospital))
-    ∙ ap (λ k. coef_row (suc (pair_count lists)) (coefs_over g ps) (or_zero (pos (capacity_of lists (pair_at lists p).hospital) +ℤ pos k))) none
+    ∙ ap (λ k. coef_row (suc (pair_count lists)) (coefs_over g ps) (positive_part (pos (capacity_of lists (pair_at lists p).hospital) +ℤ pos k))) none
     ∙ ap (coef_row (suc (pair_count lists)) (coefs_over g ps)) (omega arith)
     ∙ coef_row-same (suc (pair_count lists)) (coefs_over g ps) (pair_coefs lists p) (capacity_of lists (pair_at lists p).hospital) (λ v. pair_coefs-are lists p v)

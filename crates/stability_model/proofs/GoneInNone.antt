@@ -6,7 +6,7 @@ use Rattle.std.proofs.lemmas.Bool.Decides.{nat_tests}
 use Rattle.rank_tables.specs.Numbers.{numbers_to, is_in}
 use Rattle.rank_tables.specs.Instance.{Lists, pair_count, pair_at, rank_by_resident, rank_by_hospital, capacity_of}
 use Rattle.rank_tables.specs.Stability.{uses_of_resident, uses_of_hospital, is_matching, resident_wants, hospital_wants, blocks, is_weakly_stable}
-use Rattle.rank_tables.specs.Instance.{pairs_of_resident, pairs_of_hospital}
+use Rattle.rank_tables.specs.Instance.{pairs_of_resident, rising_pairs_of_hospital}
 use Rattle.stability_model.specs.Gone.{Pairs, is_sure, rule_a, has_only, rule_b, IsClosed, Gone}
 use Rattle.rank_tables.proofs.PairNumbers.{is_pair}
 use Rattle.rank_tables.proofs.Numbers.{all_at, all_from, is_in-filter, is_in-numbers_to, distinct-numbers_to, list_any-count, kinds_within, element}
@@ -59,8 +59,8 @@ sure_wanted lists m p h o s =
     let as_good : ℕ → Bool = λ q. nat_le (rank_by_hospital lists q) (rank_by_hospital lists p) in
     let worse : ℕ → Bool = λ q. nat_lt (rank_by_hospital lists p) (rank_by_hospital lists q) in
     let others : ℕ → Bool = λ q. not (q == p) && not (outside m q) && as_good q in
-    let le : count_by (λ q. at q && as_good q) m ≤ count_by others (pairs_of_hospital lists (pair_at lists p).hospital) =
-    subst (λ (n : ℕ). n ≤ count_by others (pairs_of_hospital lists (pair_at lists p).hospital)) (sym (count_matched lists m (λ q. at q && as_good q) h))
+    let le : count_by (λ q. at q && as_good q) m ≤ count_by others (rising_pairs_of_hospital lists (pair_at lists p).hospital) =
+    subst (λ (n : ℕ). n ≤ count_by others (rising_pairs_of_hospital lists (pair_at lists p).hospital)) (sym (count_matched lists m (λ q. at q && as_good q) h))
     (subst (λ (n : ℕ). count_by (λ q. is_in q m && (at q && as_good q)) ns ≤ n) (sym (count_in_filter others at ns))
     (count_by_le _ _ ns (λ q j. near_counts (is_in q m) (at q) (q == p) (as_good q) (λ e. subst (λ (z : ℕ). is_in z m ≡ false) (sym (eqb-true q p e)) o)))) in
     ap (λ b. nat_lt (count_by at m) (capacity_of lists (pair_at lists p).hospital) || b) (list_any-count (λ q. at q && worse q) m)

@@ -2,7 +2,7 @@
 use Rattle.std.proofs.Common.{◌≡◌, ℕ, ◌≤◌, Bool, true, false, not, ◌&&◌, ◌||◌, List, ◌==◌, nat_le, nat_lt, count_by, ◌<◌, refl, sym, inl, inr, arith}
 use Rattle.std.proofs.lemmas.Bool.{true≢false, and_from, and_parts, or_cases, or_left, or_right, leb-true, le-leb, lt-ltb, ltb-true}
 use Rattle.rank_tables.specs.Instance.{Lists, pair_at, rank_by_resident, rank_by_hospital, capacity_of}
-use Rattle.rank_tables.specs.Instance.{pairs_of_resident, pairs_of_hospital}
+use Rattle.rank_tables.specs.Instance.{pairs_of_resident, rising_pairs_of_hospital}
 use Rattle.rank_tables.specs.Tables.{IsPairNo}
 use Rattle.stability_model.specs.Gone.{AreGone, Pairs, is_sure, rule_a, has_only, rule_b, IsClosed, Gone}
 use Rattle.rank_tables.proofs.Numbers.{all_at, all_from, element}
@@ -23,7 +23,7 @@ fewer_others false false false l h k = k
 sure_grows : (lists : Lists) (a b : Pairs) (p : ℕ) → IsWithin a b → is_sure lists a p ≡ true → is_sure lists b p ≡ true
 sure_grows lists a b p h s =
     let others : Pairs → ℕ → Bool = λ gone q. not (q == p) && not (gone q) && nat_le (rank_by_hospital lists q) (rank_by_hospital lists p) in
-    let at : List ℕ = pairs_of_hospital lists (pair_at lists p).hospital in
+    let at : List ℕ = rising_pairs_of_hospital lists (pair_at lists p).hospital in
     let less : count_by (others b) at ≤ count_by (others a) at = count_by_le _ _ at (λ q i. fewer_others (q == p) (a q) (b q) _ (h q)) in
     let few : count_by (others a) at < capacity_of lists (pair_at lists p).hospital = ltb-true _ _ s in
     lt-ltb _ _ (omega arith)
@@ -47,7 +47,7 @@ rule_a_grows lists a b w h k =
 rule_b_grows : (lists : Lists) (a b : Pairs) (p : ℕ) → IsWithin a b → rule_b lists a p ≡ true → rule_b lists b p ≡ true
 rule_b_grows lists a b p h k =
     let before : Pairs → ℕ → Bool = λ gone q. nat_lt (rank_by_hospital lists q) (rank_by_hospital lists p) && has_only lists gone q in
-    let at : List ℕ = pairs_of_hospital lists (pair_at lists p).hospital in
+    let at : List ℕ = rising_pairs_of_hospital lists (pair_at lists p).hospital in
     let enough : capacity_of lists (pair_at lists p).hospital ≤ count_by (before a) at = leb-true _ _ k in
     let more : count_by (before a) at ≤ count_by (before b) at = count_by_le _ _ at (λ q i e.
     let both = and_parts (nat_lt (rank_by_hospital lists q) (rank_by_hospital lists p)) (has_only lists a q) e in

@@ -12,7 +12,7 @@ use Rattle.pb_rows.specs.Rows.{in_normal_form}
 use Rattle.pb_rows.proofs.ByNets.{normal_form-same}
 use Rattle.rank_tables.specs.Numbers.{numbers_to}
 use Rattle.std.specs.Prelude.{unwrap_or}
-use Rattle.rank_tables.specs.Instance.{Lists, capacity_of, groups_of_resident, rank_in, pair_at, pair_count, pairs_of_hospital, pairs_of_resident, rank_by_hospital, rank_by_resident}
+use Rattle.rank_tables.specs.Instance.{Lists, capacity_of, groups_of_resident, rank_in, pair_at, pair_count, rising_pairs_of_hospital, pairs_of_resident, rank_by_hospital, rank_by_resident}
 use Rattle.rank_tables.specs.Terms.{has_post, is_as_good_for_resident}
 use Rattle.stability_model.specs.Model.{pair_row, stability_coef}
 use Rattle.stability_model.specs.Making.{counted_terms, hospital_share, resident_share}
@@ -75,21 +75,21 @@ coef_parts lists point p q =
     (with_post ((pair_at lists q).hospital == (pair_at lists p).hospital) (has_post lists p) (nat_le (rank_by_hospital lists q) (rank_by_hospital lists p)))
 
 pub pair_terms_value : (lists : Lists) (p : ℕ) (point : Point) →
-    value_at point (counted_terms (resident_share lists p) (pairs_of_resident lists (pair_at lists p).resident) ++ counted_terms (hospital_share lists p) (pairs_of_hospital lists (pair_at lists p).hospital))
+    value_at point (counted_terms (resident_share lists p) (pairs_of_resident lists (pair_at lists p).resident) ++ counted_terms (hospital_share lists p) (rising_pairs_of_hospital lists (pair_at lists p).hospital))
     ≡ value_at point (pair_row lists p).terms
 pair_terms_value lists p point =
     let ns : List ℕ = numbers_to (pair_count lists) in
-    value-append point (counted_terms (resident_share lists p) (pairs_of_resident lists (pair_at lists p).resident)) (counted_terms (hospital_share lists p) (pairs_of_hospital lists (pair_at lists p).hospital))
+    value-append point (counted_terms (resident_share lists p) (pairs_of_resident lists (pair_at lists p).resident)) (counted_terms (hospital_share lists p) (rising_pairs_of_hospital lists (pair_at lists p).hospital))
     ∙ ap₂ ◌+ℤ◌
     (value_counted point (resident_share lists p) (pairs_of_resident lists (pair_at lists p).resident)
     ∙ ap pos (sum_by-filter (λ q. if point q then resident_share lists p q else 0) (λ q. (pair_at lists q).resident == (pair_at lists p).resident) ns))
-    (value_counted point (hospital_share lists p) (pairs_of_hospital lists (pair_at lists p).hospital)
+    (value_counted point (hospital_share lists p) (rising_pairs_of_hospital lists (pair_at lists p).hospital)
     ∙ ap pos (sum_by-filter (λ q. if point q then hospital_share lists p q else 0) (λ q. (pair_at lists q).hospital == (pair_at lists p).hospital) ns))
     ∙ ap pos (sum_by-plus _ _ ns ∙ sum_by_same _ _ ns (coef_parts lists point p))
     ∙ sym (value_of_terms point (stability_coef lists p) ns)
 
 pub pair_terms_make : (lists : Lists) (p : ℕ) (at_least : ℤ) → at_least ≡ (pair_row lists p).at_least →
-    normal_form (counted_terms (resident_share lists p) (pairs_of_resident lists (pair_at lists p).resident) ++ counted_terms (hospital_share lists p) (pairs_of_hospital lists (pair_at lists p).hospital)) at_least
+    normal_form (counted_terms (resident_share lists p) (pairs_of_resident lists (pair_at lists p).resident) ++ counted_terms (hospital_share lists p) (rising_pairs_of_hospital lists (pair_at lists p).hospital)) at_least
     ≡ in_normal_form (pair_row lists p)
 pair_terms_make lists p at_least e =
     normal_form-same _ _ at_least (pair_terms_value lists p) ∙ ap (normal_form (pair_row lists p).terms) e

@@ -7,7 +7,7 @@ use Rattle.std.proofs.lemmas.List.Elements.{All-filter, All-nil, All-push}
 use Rattle.std.specs.declared.vec.Vec.{Vec}
 use Rattle.hrt_base.specs.declared.numbered.PairNo.{PairNo}
 use Rattle.rank_tables.specs.Numbers.{numbers_to}
-use Rattle.rank_tables.specs.Instance.{Lists, pair_at, pair_count, pairs_of_hospital}
+use Rattle.rank_tables.specs.Instance.{Lists, pair_at, pair_count, rising_pairs_of_hospital}
 use Rattle.rank_tables.specs.Tables.{IsPairNo, numbers_of}
 use Rattle.stability_model.specs.Making.{bucket_at, items_of}
 
@@ -34,7 +34,7 @@ numbers-within : (n m : ℕ) → n ≤ m → All (λ p. (1 ≤ p) × (p ≤ m)) 
 numbers-within zero m h = All-nil (λ p. (1 ≤ p) × (p ≤ m))
 numbers-within (suc n) m h = All-push (λ p. (1 ≤ p) × (p ≤ m)) (numbers_to n) (suc n) (numbers-within n m (omega arith)) (omega arith, h)
 
-pub each_is_number : (lists : Lists) (h : ℕ) (ps : List PairNo) → numbers_of ps ≡ pairs_of_hospital lists h → All (λ (q : PairNo). IsPairNo lists q.0) ps
+pub each_is_number : (lists : Lists) (h : ℕ) (ps : List PairNo) → numbers_of ps ≡ rising_pairs_of_hospital lists h → All (λ (q : PairNo). IsPairNo lists q.0) ps
 each_is_number lists h ps e k d l =
     let all : List ℕ = numbers_to (pair_count lists) in
     let test : ℕ → Bool = λ p. (pair_at lists p).hospital == h in

@@ -5,7 +5,7 @@ use Rattle.std.proofs.lemmas.List.{length-map}
 use Rattle.std.proofs.lemmas.List.Sums.{length-filter, sum_by-append, sum_by-cons}
 use Rattle.hrt_base.specs.declared.literal.Term.{Term}
 use Rattle.rank_tables.specs.Numbers.{below, numbers_to}
-use Rattle.rank_tables.specs.Instance.{Lists, capacity_of, pair_at, pair_count, pairs_of_hospital, pairs_of_resident}
+use Rattle.rank_tables.specs.Instance.{Lists, capacity_of, pair_at, pair_count, rising_pairs_of_hospital, pairs_of_resident}
 use Rattle.rank_tables.specs.Terms.{has_post, has_term, is_as_good_for_hospital, is_as_good_for_resident, model_terms}
 use Rattle.stability_model.specs.Model.{at_most, has_any, hospital_rows, pair_row, resident_rows, stability_coef, term_count, written_rows}
 use Rattle.rank_tables.proofs.Numbers.{sum_by-filter, sum_by_same}
@@ -51,6 +51,6 @@ terms_counted lists =
       sum_by-append term_count (resident_rows lists ++ hospital_rows lists) (map (pair_row lists) ns),
       sum_by-append term_count (resident_rows lists) (hospital_rows lists),
       at_most_terms (λ r. 1) (pairs_of_resident lists) (length lists.residents),
-      at_most_terms (capacity_of lists) (pairs_of_hospital lists) (length lists.hospitals),
+      at_most_terms (capacity_of lists) (rising_pairs_of_hospital lists) (length lists.hospitals),
       pairs_part,
     )

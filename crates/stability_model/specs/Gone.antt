@@ -2,7 +2,7 @@
 use Rattle.std.specs.Prelude.{ℕ, min, Bool, not, ◌&&◌, ◌||◌, ◌==◌, nat_lt, nat_le, IsTrue, length, count_by, sum_by}
 use Rattle.std.specs.List.{list_all, list_any}
 use Rattle.rank_tables.specs.Numbers.{below}
-use Rattle.rank_tables.specs.Instance.{Lists, capacity_of, pair_at, pairs_of_hospital, pairs_of_resident, rank_by_hospital, rank_by_resident}
+use Rattle.rank_tables.specs.Instance.{Lists, capacity_of, pair_at, rising_pairs_of_hospital, pairs_of_resident, rank_by_hospital, rank_by_resident}
 use Rattle.rank_tables.specs.Tables.{IsPairNo}
 
 -- A set of pairs, as a test of their numbers.
@@ -12,7 +12,7 @@ Pairs = ℕ → Bool
 -- pair p is sure of a post: among the others that aren't gone its hospital ranks fewer than it has posts at least as high
 abbrev pub is_sure : Lists → Pairs → ℕ → Bool
 is_sure lists gone p =
-    nat_lt (count_by (λ q. not (q == p) && not (gone q) && nat_le (rank_by_hospital lists q) (rank_by_hospital lists p)) (pairs_of_hospital lists (pair_at lists p).hospital))
+    nat_lt (count_by (λ q. not (q == p) && not (gone q) && nat_le (rank_by_hospital lists q) (rank_by_hospital lists p)) (rising_pairs_of_hospital lists (pair_at lists p).hospital))
     (capacity_of lists (pair_at lists p).hospital)
 
 -- Rule A: what a resident ranks strictly lower than a pair that is sure of a post is gone.
@@ -29,7 +29,7 @@ has_only lists gone q =
 abbrev pub rule_b : Lists → Pairs → ℕ → Bool
 rule_b lists gone p =
     nat_le (capacity_of lists (pair_at lists p).hospital)
-    (count_by (λ q. nat_lt (rank_by_hospital lists q) (rank_by_hospital lists p) && has_only lists gone q) (pairs_of_hospital lists (pair_at lists p).hospital))
+    (count_by (λ q. nat_lt (rank_by_hospital lists q) (rank_by_hospital lists p) && has_only lists gone q) (rising_pairs_of_hospital lists (pair_at lists p).hospital))
 
 -- each pair that a rule shows is in the set
 abbrev pub IsClosed : Lists → Pairs → Type 0
@@ -50,7 +50,7 @@ residents_left lists gone = count_by (λ r. list_any (λ p. not (gone p)) (pairs
 
 -- how many posts the pairs that are left can fill
 abbrev pub posts_left : Lists → Pairs → ℕ
-posts_left lists gone = sum_by (λ h. min (capacity_of lists h) (count_by (λ p. not (gone p)) (pairs_of_hospital lists h))) (below (length lists.hospitals))
+posts_left lists gone = sum_by (λ h. min (capacity_of lists h) (count_by (λ p. not (gone p)) (rising_pairs_of_hospital lists h))) (below (length lists.hospitals))
 
 -- the smaller of the two; no matching of pairs that are left has more pairs
 abbrev pub ceiling : Lists → Pairs → ℕ

@@ -7,7 +7,7 @@ use Rattle.pb_rows.specs.Points.{Point, value_at}
 use Rattle.pb_rows.specs.Rows.{holds, in_normal_form}
 use Rattle.pb_rows.specs.Formula.{Formula}
 use Rattle.rank_tables.specs.Numbers.{below, numbers_to, is_in}
-use Rattle.rank_tables.specs.Instance.{Lists, capacity_of, pair_at, pair_count, pairs_of_hospital, pairs_of_resident}
+use Rattle.rank_tables.specs.Instance.{Lists, capacity_of, pair_at, pair_count, rising_pairs_of_hospital, pairs_of_resident}
 use Rattle.rank_tables.specs.Terms.{has_post, is_as_good_for_hospital, is_as_good_for_resident}
 use Rattle.rank_tables.specs.Stability.{blocks, is_matching, is_weakly_stable}
 
@@ -32,7 +32,7 @@ resident_has_pair lists r = has_any (pairs_of_resident lists r)
 
 -- whether a hospital has an acceptable pair
 abbrev pub hospital_has_pair : Lists → ℕ → Bool
-hospital_has_pair lists h = has_any (pairs_of_hospital lists h)
+hospital_has_pair lists h = has_any (rising_pairs_of_hospital lists h)
 
 -- a resident is in at most one pair
 abbrev pub resident_row : Lists → ℕ → Written
@@ -40,7 +40,7 @@ resident_row lists r = at_most 1 (pairs_of_resident lists r)
 
 -- a hospital is in at most as many pairs as it has posts
 abbrev pub hospital_row : Lists → ℕ → Written
-hospital_row lists h = at_most (capacity_of lists h) (pairs_of_hospital lists h)
+hospital_row lists h = at_most (capacity_of lists h) (rising_pairs_of_hospital lists h)
 
 -- the rows of the residents that have an acceptable pair, in their order
 abbrev pub resident_rows : Lists → List Written

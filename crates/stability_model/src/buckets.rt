@@ -1,6 +1,6 @@
 // The pairs of each hospital by rising number. (An instance has them in the order of the hospital's list.)
 ghost use Rattle.std.specs.Prelude.{◌≡◌, ◌<◌, ◌++◌, [], ◌∷◌, ℕ, ◌==◌, if◌then◌else◌, length, IfOk, OnOk};
-ghost use Rattle.rank_tables.specs.Instance.{pairs_of_hospital};
+ghost use Rattle.rank_tables.specs.Instance.{rising_pairs_of_hospital};
 ghost use Rattle.rank_tables.specs.Tables.{numbers_of};
 ghost use Rattle.stability_model.specs.Making.{bucket_at};
 
@@ -33,7 +33,7 @@ fn push_at(buckets: &mut Vec<Vec<PairNo>>, place: usize, pair: PairNo) -> Result
 // The pairs of each hospital.
 pub fn pairs_by_hospital(alloc: Global, inst: &Instance) -> Result<Vec<Vec<PairNo>>, AllocError>
     ensures count { IfOk result (λ buckets. length buckets.items ≡ length inst.now.hospitals) }
-    ensures each { IfOk result (λ buckets. (h : ℕ) → numbers_of (bucket_at buckets.items h) ≡ pairs_of_hospital inst.now h) }
+    ensures each { IfOk result (λ buckets. (h : ℕ) → numbers_of (bucket_at buckets.items h) ≡ rising_pairs_of_hospital inst.now h) }
 {
     let mut buckets = empty_buckets(alloc, inst.hospitals() as usize)?;
     for k in 0..inst.pairs() {

@@ -2,7 +2,7 @@
 ghost use Rattle.std.specs.Prelude.{◌≡◌, ◌+◌, ◌<◌, ◌≤◌, ◌^◌, ◌++◌, ℕ, [], length, map, IfOk, OnOk, All};
 ghost use Rattle.pb_rows.specs.Rows.{in_normal_form};
 ghost use Rattle.rank_tables.specs.Numbers.{below, numbers_to};
-ghost use Rattle.rank_tables.specs.Instance.{pair_at, pair_count, pairs_of_hospital};
+ghost use Rattle.rank_tables.specs.Instance.{pair_at, pair_count, rising_pairs_of_hospital};
 ghost use Rattle.rank_tables.specs.WellFormed.{most_capacity};
 ghost use Rattle.rank_tables.specs.Tables.{IsPairNo, numbers_of};
 ghost use Rattle.stability_model.specs.Model.{at_most, hospital_row_no, hospital_rows, pair_row, resident_row_no, resident_rows};
@@ -68,7 +68,7 @@ pub fn push_hospital_rows(
     requires before { rows.old.items ≡ map in_normal_form (resident_rows inst.now) }
     requires room { length rows.old.items ≤ 20000 }
     requires count { length buckets.now ≡ length inst.now.hospitals }
-    requires each { (h : ℕ) → numbers_of (bucket_at buckets.now h) ≡ pairs_of_hospital inst.now h }
+    requires each { (h : ℕ) → numbers_of (bucket_at buckets.now h) ≡ rising_pairs_of_hospital inst.now h }
     ensures rows { OnOk result (rows.new.items ≡ map in_normal_form (resident_rows inst.now ++ hospital_rows inst.now)) }
     ensures numbers { IfOk result (λ numbers. numbers.items ≡ map (hospital_row_no inst.now) (below (length inst.now.hospitals))) }
     ensures few { OnOk result (length rows.new.items ≤ length rows.old.items + 20000) }
@@ -84,7 +84,7 @@ pub fn push_hospital_rows(
 // The row of a pair, given the pairs of its hospital.
 fn pair_row(alloc: Global, inst: &Instance, p: PairNo, pairs: &[PairNo]) -> Result<Row, NoMemory>
     requires p { IsPairNo inst.now p.0 }
-    requires pairs { numbers_of pairs.now ≡ pairs_of_hospital inst.now (pair_at inst.now p.0).hospital }
+    requires pairs { numbers_of pairs.now ≡ rising_pairs_of_hospital inst.now (pair_at inst.now p.0).hospital }
     ensures { IfOk result (λ row. row ≡ in_normal_form (pair_row inst.now p.0)) }
 {
     let terms = pair_terms(alloc, inst, p, pairs)?;
@@ -100,7 +100,7 @@ pub fn push_pair_rows(
     buckets: &[Vec<PairNo>],
 ) -> Result<(), NoMemory>
     requires count { length buckets.now ≡ length inst.now.hospitals }
-    requires each { (h : ℕ) → numbers_of (bucket_at buckets.now h) ≡ pairs_of_hospital inst.now h }
+    requires each { (h : ℕ) → numbers_of (bucket_at buckets.now h) ≡ rising_pairs_of_hospital inst.now h }
     ensures rows { OnOk result (rows.new.items ≡ rows.old.items ++ map in_normal_form (map (pair_row inst.now) (numbers_to (pair_count inst.now)))) }
     ensures few { OnOk result (length rows.new.items ≤ length rows.old.items + 100000) }
 {

@@ -1,5 +1,5 @@
 use Rattle.std.proofs.Common.{◌≡◌, ◌+◌, ap, arith}
-use Rattle.derivation.specs.Deletions.{is_deleted, unit_of}
+use Rattle.derivation.specs.Deletions.{is_deleted, unit_row_no}
 use Rattle.derivation.specs.Derived.{Derived}
 use Rattle.pair_reduction.proofs.Deleting.{deletes_unit}
 use Rattle.pair_reduction.proofs.Reducing.{absent_from, is_one_more, reduces_one}
@@ -12,7 +12,7 @@ delete-requires-clause-implied c = shown_implies c.args.side c.args.model.now c.
 
 pub returns-clause-reduces : goal.returns-clause-reduces
 returns-clause-reduces c =
-    reduces_one c.args.model.now c.args.deriv.now c.delete.new.deriv c.args.gone.now c.delete.new.gone c.args.w.0 c.requires.can c.requires.w (absent_from (unit_of c.args.gone.now c.args.w.0) c.requires.absent)
+    reduces_one c.args.model.now c.args.deriv.now c.delete.new.deriv c.args.gone.now c.delete.new.gone c.args.w.0 c.requires.can c.requires.w (absent_from (unit_row_no c.args.gone.now c.args.w.0) c.requires.absent)
     (rule_shown c.args.side c.args.model.now (is_deleted c.args.gone.now) c.args.w.0 c.requires.rule)
     (deletes_unit c.args.w.0 c.args.deriv.now c.delete.new.deriv c.args.gone.now c.delete.new.gone c.requires.can.ready c.next-next.ensures.in_order c.in_ok-delete.ensures.made c.in_ok-delete.ensures.valid c.in_ok-delete.ensures.marked)
     (let n : c.delete.new.deriv.state.next ≡ c.args.deriv.now.state.next + 1 = ap (λ (d : Derived). d.state.next) c.in_ok-delete.ensures.made in omega (arith, n))

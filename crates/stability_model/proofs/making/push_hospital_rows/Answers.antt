@@ -4,7 +4,7 @@ use Rattle.pb_rows.specs.Terms.{PlainRow, Written}
 use Rattle.pb_rows.specs.Rows.{in_normal_form}
 use Rattle.rank_tables.specs.Numbers.{below}
 use Rattle.rank_tables.specs.Tables.{numbers_of}
-use Rattle.rank_tables.specs.Instance.{pairs_of_hospital}
+use Rattle.rank_tables.specs.Instance.{rising_pairs_of_hospital}
 use Rattle.stability_model.specs.Model.{hospital_has_pair, hospital_row, hospital_row_no, resident_rows}
 use Rattle.stability_model.specs.Making.{number_after, row_if_any}
 use Rattle.stability_model.proofs.Growing.{map_below, rows_counted, rows_few, rows_more, rows_to}
@@ -31,13 +31,13 @@ loop-h-preserved c =
     let h = c.loop-h.h in
     let before : List Written = resident_rows lists in
     let within : h < length c.args.buckets.now = omega (arith, c.requires.count, c.loop-h-test.true, c.hospitals-h-end.ensures.count) in
-    let pairs : numbers_of c.deref.result.now ≡ pairs_of_hospital lists h =
+    let pairs : numbers_of c.deref.result.now ≡ rising_pairs_of_hospital lists h =
     ap numbers_of (c.deref.ensures.value ∙ ap (λ b. b.items) c.index-buckets-h.is ∙ sym (bucket_at-read c.args.buckets.now h c.index-buckets-h.result within)) ∙ c.requires.each h in
     let count : length c.loop-h.rows.items ≡ length before + count_by (hospital_has_pair lists) (below h) =
     ap length c.loop-h.invariant.0 ∙ rows_counted before (hospital_row lists) (hospital_has_pair lists) h in (
       c.in_ok-push_at_most.ensures.rows
           ∙ ap₂ (λ (rs : List PlainRow) (ps : List ℕ). rs ++ row_if_any c.capacity.result ps) c.loop-h.invariant.0 pairs
-          ∙ ap (λ n. rows_to before (hospital_row lists) (hospital_has_pair lists) h ++ row_if_any n (pairs_of_hospital lists h)) c.capacity.ensures.value
+          ∙ ap (λ n. rows_to before (hospital_row lists) (hospital_has_pair lists) h ++ row_if_any n (rising_pairs_of_hospital lists h)) c.capacity.ensures.value
           ∙ sym (rows_more before (hospital_row lists) (hospital_has_pair lists) h),
       c.in_ok-push.ensures.items
           ∙ ap₂ (λ (ns : List (Option ℕ)) (n : Option ℕ). ns ++ n ∷ []) c.loop-h.invariant.1 (c.in_ok-push_at_most.ensures.number ∙ ap₂ number_after count pairs)

@@ -1,7 +1,8 @@
 #!/usr/bin/env bash
 # Refuses each request for memory in turn, for each command on the worked instance, until a run makes no more
 # requests, and counts the statuses with which the built program ended. They may be 6, and that of the run without a refusal
-# (0), and no other; and what was reported may be nothing or the whole report. (`rt try --fail-alloc N` does the same for one
+# (0), and no other; what was reported may be nothing or the whole report; and each output has its bytes from before, or is whole.
+# (`rt try --fail-alloc N` does the same for one
 # request before any proof, in some 20 seconds each.) Build first: rt run in crates/hrt. It needs gcc.
 set -eu
 cd "$(dirname "$0")/.."
@@ -36,11 +37,17 @@ for words in "solve $work/i" "audit $work/i $work/q" "model $work/i $work/m" "ve
   "check $work/m $work/p" "bound $work/i $work/n $work/o" "quick $work/i $work/n $work/o"; do
   # shellcheck disable=SC2086
   "$program" $words > "$work/whole"
+  for file in m n o; do [ ! -e "$work/$file" ] || cp "$work/$file" "$work/whole_$file"; done
   n=0
   : > "$work/statuses"
   while :; do
     n=$((n + 1))
     : > "$work/refused"
+    # what the command writes is as before; `check` reads the model that `model` wrote
+    case ${words%% *} in
+      model) echo before > "$work/m" ;;
+      bound | quick) echo before > "$work/n"; echo before > "$work/o" ;;
+    esac
     status=0
     # shellcheck disable=SC2086
     LD_PRELOAD="$work/refuse.so" REFUSE=$n "$program" $words > "$work/out" 9> "$work/refused" || status=$?
@@ -51,6 +58,13 @@ for words in "solve $work/i" "audit $work/i $work/q" "model $work/i $work/m" "ve
       6) [ ! -s "$work/out" ] || { bad=1; echo "request $n: status 6 with a report"; } ;;
       *) bad=1; echo "request $n: status $status" ;;
     esac
+    for file in m n o; do
+      [ -e "$work/$file" ] || continue
+      if ! cmp -s "$work/$file" "$work/whole_$file"; then
+        [ "$status" = 6 ] && [ "$(cat "$work/$file")" = before ] || { bad=1; echo "request $n: an output in part"; }
+      fi
+    done
+    ! ls "$work" | grep -q '^hrt-unfinished-' || { bad=1; echo "request $n: an unfinished file is left"; }
   done
   echo "${words%% *}: $((n - 1)) requests refused in turn: $(sort "$work/statuses" | uniq -c | awk '{printf "status %s %s times; ", $2, $1}')"
 done

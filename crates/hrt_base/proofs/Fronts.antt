@@ -4,11 +4,11 @@ use Rattle.std.proofs.lemmas.List.{take-append-le, take_min}
 use Rattle.std.proofs.Math.Seq.{take-append-add}
 use Rattle.hrt_base.specs.declared.port.Port.{Port}
 use Rattle.hrt_base.specs.World.{World}
-use Rattle.hrt_base.specs.Calls.{Sent, SentFront, SentPart}
-use Rattle.hrt_base.proofs.Pieces.{sent_more, sent_none}
+use Rattle.hrt_base.specs.Calls.{Sent, SentFront, SentPart, SentSoFar}
+use Rattle.hrt_base.proofs.Pieces.{sent_none, sent_so_far, sent_then}
 
 pub none_front : (told : Type 0) (port : Port) (text : List ℕ) (w : World) → SentFront told port text w w
-none_front told port text w = record { front = (0, sent_none told port w) }
+none_front told port text w = record { front = (0, sent_so_far told port _ w w (sent_none told port w)) }
 
 pub part_front : (told : Type 0) (port : Port) (text : List ℕ) (w u : World) → SentPart told port text w u → SentFront told port text w u
 part_front told port text w u part = record { front = part.part }
@@ -16,14 +16,14 @@ part_front told port text w u part = record { front = part.part }
 pub front_then : (told : Type 0) (port : Port) (a b : List ℕ) (w v u : World) → Sent told port a w v → SentFront told port b v u → SentFront told port (a ++ b) w u
 front_then told port a b w v u first second =
     let k = second.front.0 in
-    record { front = (length a + k, subst (λ (l : List ℕ). Sent told port l w u) (sym (take-append-add a b k)) (sent_more told port a (take k b) w v u first second.front.1)) }
+    record { front = (length a + k, subst (λ (l : List ℕ). SentSoFar told port l w u) (sym (take-append-add a b k)) (sent_then told port a (take k b) w v u first second.front.1)) }
 
 pub front_longer : (told : Type 0) (port : Port) (a b : List ℕ) (w u : World) → SentFront told port a w u → SentFront told port (a ++ b) w u
 front_longer told port a b w u first =
     let k = first.front.0 in
     let n = min k (length a) in
     let same : take k a ≡ take n (a ++ b) = sym (take_min k a) ∙ sym (take-append-le n a b (omega arith)) in
-    record { front = (n, subst (λ (l : List ℕ). Sent told port l w u) same first.front.1) }
+    record { front = (n, subst (λ (l : List ℕ). SentSoFar told port l w u) same first.front.1) }
 
 -- a text begins with another
 pub record BeginsWith (front whole : List ℕ) : Type 0 where

@@ -14,7 +14,7 @@ mod whole;
 pub use failure::{Failed, NoMemory, ReadEnd, WriteEnd};
 pub use host::{Begun, Host};
 pub use literal::{Lit, Term, Value};
-pub use number::{NumberText, read_number, write_number};
+pub use number::{NumberText, capped_value, read_number, write_number};
 pub use numbered::{PairNo, RowNo};
 pub use port::Port;
 pub use steps::Steps;

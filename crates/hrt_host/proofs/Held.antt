@@ -51,7 +51,7 @@ module _ (files : List File) (seats : List Seat) (port : Port) (i : ℕ) (r x : 
   read_taken r w bytes same front =
       let rest = λ (q : Seat). rest_of files q.stand in
       record {
-        later = omega arith;
+        read_faults = refl;
         write_faults = refl;
         begun = place_kept (λ q. begun_of q.stand) Idle same.begun;
         front = λ _. place_was rest [] ∙ front ∙ ap (λ (l : List ℕ). bytes ++ l) (sym (place_is rest []));
@@ -77,8 +77,8 @@ module _ (files : List File) (seats : List Seat) (port : Port) (i : ℕ) (r x : 
       let sent : sent_by files x ≡ sent_by files s ++ bytes = rw (grown.sealed_at, here) grown.bytes in
       let name : name_by files x ≡ name_by files s = rw (grown.sealed_at, here) grown.name in
       record {
-        later = omega arith;
         read_faults = refl;
+        write_faults = refl;
         begun = place_kept (λ q. begun_of q.stand) Idle (ap begun_of grown.stand);
         content = λ _ k. record {
           name = place_kept (name_by files) [] name k;
@@ -119,7 +119,7 @@ module _ (files : List File) (seats : List Seat) (port : Port) (i : ℕ) (r x : 
   pub read_opened : (r w file : ℕ) (name : List ℕ) → memory_begun seats port ≡ Idle → x.stand ≡ reads file 0 → x.file ≡ s.file → x.sealed_at ≡ s.sealed_at → file_of files name ≡ Some (bytes_at files file)
       → Opened (Unit {0}) port name (world_of r w files seats) (world_of r w files (set seats i x))
   read_opened r w file name was stand own last found = record {
-    later = omega arith;
+    read_faults = refl;
     write_faults = refl;
     begun = place_put (λ q. begun_of q.stand) Idle ∙ ap (λ (t : Stand). put port (begun_of t) (memory_begun seats)) stand;
     content = λ _. (
@@ -141,8 +141,8 @@ module _ (files : List File) (seats : List Seat) (port : Port) (i : ℕ) (r x : 
       let name_now : name_by files x ≡ name = rw (here, own) named in
       let sent_now : sent_by files x ≡ [] = rw (here, own) empty in
       record {
-        later = omega arith;
         read_faults = refl;
+        write_faults = refl;
         begun = place_put (λ q. begun_of q.stand) Idle ∙ ap (λ (t : Stand). put port (begun_of t) (memory_begun seats)) stand;
         content = λ _ k. record {
           name = (place_put (name_by files) [] ∙ ap (λ (l : List ℕ). put port l c.name) name_now) k;

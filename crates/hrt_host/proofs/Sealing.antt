@@ -75,7 +75,7 @@ module _ (files after : List File) (seats : List Seat) (port : Port) (i : ℕ) (
   ]
 
   pub write_sealed : (a b : ℕ) → Sealed (Unit {0}) port (world_of a b files seats) (world_of a b after (set seats i x))
-  write_sealed a b = record { later = omega arith; read_faults = refl; begun = ended; content = λ _. sealed_content }
+  write_sealed a b = record { read_faults = refl; write_faults = refl; begun = ended; content = λ _. sealed_content }
 
   pub below_sealed : all_below (length after) (set seats i x) ≡ true
   below_sealed = elim (cases_eq (length q.file.name.items) 0) [

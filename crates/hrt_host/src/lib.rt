@@ -2,8 +2,13 @@
 #![tactic(auto)]
 
 mod count;
+mod draft;
 mod file;
+mod gate;
 mod memory;
+mod node;
+mod output;
+mod paths;
 mod real;
 mod rooms;
 mod seat;

@@ -1,31 +1,14 @@
 // The real host. It tells no names and no bytes.
-ghost use Rattle.std.specs.Prelude.{◌≡◌, ◌<◌, ◌≤◌, ◌↔◌, [], length, take, is_err, IfOk, IfSome, OnOk, OnErr};
-ghost use Rattle.std.specs.Bool.{OnTrue, OnFalse};
+ghost use Rattle.std.specs.Prelude.{◌≡◌, ◌<◌, ◌≤◌, ◌↔◌, [], length, take, is_err, IfOk, OnOk, OnErr};
 ghost use Rattle.hrt_base.specs.Calls.{AtStart, NotRead, NotWritten, Opened, Started, Sealed, Taken, Sent};
 ghost use Rattle.hrt_host.specs.Plan.{faults_after};
 
 use crate::count::{fault, place};
+use crate::gate::{Door, Gate, at_door, leave, reading, shut};
+use crate::output::begin_output;
 use hrt_base::{Begun, Failed, Host, Port};
-use std::fs::{self, File};
-use std::io::{ErrorKind, Read, Write};
-use std::mem;
-
-#[derive(Drop)]
-enum Door {
-    Idle,
-    Reading(File),
-    Writing(File),
-    Printing,
-}
-
-// A port. (A struct round the enum: what a method leaves in an enum that is lent out of an array has no plain name in proofs.)
-#[derive(Drop)]
-struct Gate {
-    door: Door,
-}
 
 /// Files and standard output.
-#[derive(Drop)]
 pub struct RealHost {
     rt: HostRuntime,
     gates: [Gate; 7],
@@ -33,10 +16,19 @@ pub struct RealHost {
     write_faults: u64,
 }
 
-fn shut() -> Gate
-    ensures { result.door ≡ Door.Idle }
-{
-    Gate { door: Door::Idle }
+// What a run leaves unfinished is removed.
+impl Drop for RealHost {
+    fn drop(self) {
+        let RealHost {
+            rt,
+            gates,
+            read_faults: _,
+            write_faults: _,
+        } = self;
+        for gate in gates {
+            leave(&rt, gate);
+        }
+    }
 }
 
 #[tactic(auto, unfolding(crate::specs::Real::real_world))]
@@ -57,108 +49,12 @@ impl RealHost {
                 shut(),
                 shut(),
                 shut(),
-                Gate {
-                    door: Door::Printing,
-                },
+                at_door(Door::Printing),
                 shut(),
                 shut(),
             ],
             read_faults: 0,
             write_faults: 0,
-        }
-    }
-}
-
-// Fills the buffer from a file, or up to the file's end. A call that a signal interrupts is made again.
-fn fill(file: &mut File, buffer: &mut [u8]) -> Option<usize>
-    ensures { IfSome result (λ n. n ≤ length buffer.new) }
-{
-    let mut done = 0;
-    for _ in 0..u64::MAX {
-        if done >= buffer.len() {
-            return Some(done);
-        }
-        match file.read(&mut buffer[done..]) {
-            Ok(0) => return Some(done),
-            Ok(count) => done += count,
-            Err(error) if error.kind() == ErrorKind::Interrupted => {}
-            Err(_) => return None,
-        }
-    }
-    None
-}
-
-impl Gate {
-    ghost use Rattle.hrt_host.specs.Doors.{door_begun};
-
-    fn set(&mut self, door: Door)
-        ensures { self.new.door ≡ door }
-    {
-        self.door = door;
-    }
-
-    fn read(&mut self, buffer: &mut [u8]) -> Option<usize>
-        ensures begun { door_begun self.new.door ≡ door_begun self.old.door }
-        ensures count { IfSome result (λ n. n ≤ length buffer.new) }
-    {
-        match mem::replace(&mut self.door, Door::Idle) {
-            Door::Reading(mut file) => {
-                let moved = fill(&mut file, buffer);
-                self.door = Door::Reading(file);
-                moved
-            }
-            other => {
-                self.door = other;
-                None
-            }
-        }
-    }
-
-    // Writes all the bytes, in as many calls as it takes. A call that takes none is an error.
-    fn write(&mut self, rt: &HostRuntime, bytes: &[u8]) -> bool
-        ensures { door_begun self.new.door ≡ door_begun self.old.door }
-    {
-        match mem::replace(&mut self.door, Door::Idle) {
-            Door::Writing(mut file) => {
-                let written = file.write_all(bytes).is_ok();
-                self.door = Door::Writing(file);
-                written
-            }
-            Door::Printing => {
-                self.door = Door::Printing;
-                rt.stdout().write_all(bytes).is_ok()
-            }
-            other => {
-                self.door = other;
-                false
-            }
-        }
-    }
-
-    // Closes a file, or ends the printing.
-    fn close(&mut self, rt: &HostRuntime) -> bool
-        ensures closed { OnTrue result (self.new.door ≡ Door.Idle) }
-        ensures failed { OnFalse result (door_begun self.new.door ≡ door_begun self.old.door) }
-    {
-        match mem::replace(&mut self.door, Door::Idle) {
-            Door::Writing(mut file) => {
-                if file.flush().is_ok() {
-                    return true;
-                }
-                self.door = Door::Writing(file);
-                false
-            }
-            Door::Printing => {
-                if rt.stdout().flush().is_ok() {
-                    return true;
-                }
-                self.door = Door::Printing;
-                false
-            }
-            other => {
-                self.door = other;
-                false
-            }
         }
     }
 }
@@ -177,14 +73,11 @@ impl Host for RealHost {
         ensures failed { OnErr result (NotRead ⊥ (real_world self.old) (real_world self.new)) }
         ensures counts { (real_world self.new).read_faults ≡ faults_after (is_err result) (real_world self.old).read_faults }
     {
-        match fs::open(&self.rt, name) {
-            Ok(file) => {
-                let gate = &mut self.gates[place(port)];
-                gate.set(Door::Reading(file));
-                Ok(())
-            }
-            Err(_) => Err(fault(&mut self.read_faults)),
-        }
+        let Some(gate) = reading(&self.rt, name) else {
+            return Err(fault(&mut self.read_faults));
+        };
+        self.gates[place(port)] = gate;
+        Ok(())
     }
 
     fn read(&mut self, port: Port, buffer: &mut [u8]) -> Result<usize, Failed>
@@ -209,14 +102,12 @@ impl Host for RealHost {
         ensures failed { OnErr result (NotWritten ⊥ (real_world self.old) (real_world self.new)) }
         ensures counts { (real_world self.new).write_faults ≡ faults_after (is_err result) (real_world self.old).write_faults }
     {
-        match fs::create(&self.rt, name) {
-            Ok(file) => {
-                let gate = &mut self.gates[place(port)];
-                gate.set(Door::Writing(file));
-                Ok(())
-            }
-            Err(_) => Err(fault(&mut self.write_faults)),
-        }
+        let at = place(port);
+        let Some(gate) = begin_output(&self.rt, &self.gates, at, name) else {
+            return Err(fault(&mut self.write_faults));
+        };
+        self.gates[at] = gate;
+        Ok(())
     }
 
     fn write(&mut self, port: Port, bytes: &[u8]) -> Result<usize, Failed>
@@ -255,6 +146,8 @@ impl Host for RealHost {
 mod tests {
     use super::RealHost;
     use hrt_base::{Host, Port, read_all, write_all};
+    use std::fs;
+    use std::os::unix::fs::symlink;
     use std::test::Fail;
 
     #[test]
@@ -268,6 +161,96 @@ mod tests {
         let bytes = read_all(alloc, &mut host, Port::Instance, 100)?;
         assert_eq!(rt; bytes.as_slice(), b"two words".as_slice());
         assert!(rt; host.begin_read(Port::Pairs, "no_such_file").is_err());
+        Ok(())
+    }
+
+    // Whether a file has these bytes.
+    fn has(rt: &HostRuntime, name: &str, bytes: &[u8]) -> bool {
+        fs::read(rt, name).is_ok_and(|found| found.as_slice() == bytes)
+    }
+
+    // How many entries a folder has.
+    fn entries(rt: &HostRuntime, folder: &str) -> Result<usize, Fail> {
+        let mut count: usize = 0;
+        for entry in fs::read_dir(rt, folder)? {
+            entry?;
+            count = count.saturating_add(1);
+        }
+        Ok(count)
+    }
+
+    #[test]
+    fn keeps_a_file_until_the_new_one_is_whole(rt: HostRuntime) -> Result<(), Fail> {
+        fs::create_dir(&rt, "kept_by_test")?;
+        fs::write(&rt, "kept_by_test/m", b"before")?;
+        let mut host = RealHost::new(rt);
+        host.begin_write(Port::Model, "kept_by_test/m")?;
+        write_all(&mut host, Port::Model, b"half")?;
+        assert!(rt; has(&rt, "kept_by_test/m", b"before"));
+        assert!(rt;
+            host.begin_write(Port::Proof, "kept_by_test/absent/p")
+                .is_err()
+        );
+        assert!(rt; has(&rt, "kept_by_test/m", b"before"));
+        drop(host);
+        assert!(rt; has(&rt, "kept_by_test/m", b"before"));
+        assert_eq!(rt; entries(&rt, "kept_by_test")?, 1);
+        let mut host = RealHost::new(rt);
+        host.begin_write(Port::Model, "kept_by_test/m")?;
+        write_all(&mut host, Port::Model, b"after")?;
+        host.seal(Port::Model)?;
+        assert!(rt; has(&rt, "kept_by_test/m", b"after"));
+        drop(host);
+        assert_eq!(rt; entries(&rt, "kept_by_test")?, 1);
+        Ok(())
+    }
+
+    #[test]
+    fn tells_one_file_under_two_names(rt: HostRuntime) -> Result<(), Fail> {
+        fs::write(&rt, "one_by_test", b"before")?;
+        symlink(&rt, "one_by_test", "link_by_test")?;
+        fs::hard_link(&rt, "one_by_test", "other_by_test")?;
+        let mut host = RealHost::new(rt);
+        host.begin_read(Port::Instance, "one_by_test")?;
+        assert!(rt; host.begin_write(Port::Model, "one_by_test").is_err());
+        assert!(rt; host.begin_write(Port::Model, "./one_by_test").is_err());
+        assert!(rt; host.begin_write(Port::Model, "link_by_test").is_err());
+        assert!(rt; host.begin_write(Port::Model, "other_by_test").is_err());
+        host.begin_write(Port::Model, "new_by_test")?;
+        assert!(rt; host.begin_write(Port::Proof, "./new_by_test").is_err());
+        host.seal(Port::Model)?;
+        assert!(rt; host.begin_write(Port::Proof, "new_by_test").is_err());
+        assert!(rt; has(&rt, "one_by_test", b"before"));
+        Ok(())
+    }
+
+    #[test]
+    fn replaces_what_a_link_means(rt: HostRuntime) -> Result<(), Fail> {
+        fs::write(&rt, "meant_by_test", b"before")?;
+        symlink(&rt, "meant_by_test", "means_by_test")?;
+        symlink(&rt, "none_by_test", "dangling_by_test")?;
+        let mut host = RealHost::new(rt);
+        host.begin_write(Port::Model, "means_by_test")?;
+        host.begin_write(Port::Proof, "dangling_by_test")?;
+        write_all(&mut host, Port::Model, b"after")?;
+        host.seal(Port::Model)?;
+        host.seal(Port::Proof)?;
+        assert!(rt; has(&rt, "meant_by_test", b"after"));
+        assert!(rt; has(&rt, "none_by_test", b""));
+        assert!(rt; fs::symlink_metadata(&rt, "means_by_test")?.is_symlink());
+        assert!(rt; fs::symlink_metadata(&rt, "dangling_by_test")?.is_symlink());
+        Ok(())
+    }
+
+    #[test]
+    fn writes_a_device_as_it_is(rt: HostRuntime) -> Result<(), Fail> {
+        let mut host = RealHost::new(rt);
+        host.begin_write(Port::Model, "/dev/null")?;
+        host.begin_write(Port::Proof, "/dev/full")?;
+        write_all(&mut host, Port::Model, b"lost")?;
+        assert!(rt; write_all(&mut host, Port::Proof, b"lost").is_err());
+        host.seal(Port::Model)?;
+        assert!(rt; !fs::metadata(&rt, "/dev/null")?.is_file());
         Ok(())
     }
 }

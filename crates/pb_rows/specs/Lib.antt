@@ -5,3 +5,4 @@ pub mod Rows
 pub mod Closure
 pub mod Formula
 pub mod Joined
+pub mod Weakened

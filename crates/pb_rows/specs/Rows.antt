@@ -41,6 +41,11 @@ saturate r = record r { terms = filter is_present (map (capped r.degree) r.terms
 abbrev pub weaken : ℕ → PlainRow → PlainRow
 weaken v r = record { terms = filter (λ t. not (is_over v t)) r.terms; degree = r.degree - weight_over v r.terms }
 
+-- the variables go, one after another
+abbrev pub weaken_all : List ℕ → PlainRow → PlainRow
+weaken_all [] r = r
+weaken_all (v ∷ vs) r = weaken_all vs (weaken v r)
+
 -- the opposite literals with the same coefficients, to at least their sum plus 1 minus the degree: it holds exactly where the
 -- row doesn't
 abbrev pub opposite_row : PlainRow → PlainRow
@@ -83,3 +88,8 @@ pub record Fits (r : PlainRow) : Type 0 where
 pub record IsWellFormedRow (r : PlainRow) : Type 0 where
   pub rising : IsRisingFrom 0 r.terms
   pub fits : Fits r
+
+-- the coefficients sum to at most 2^60, and the degree is at most 2^60: the numbers of a row that propagation keeps as words
+pub record IsShort (r : PlainRow) : Type 0 where
+  pub sum : coef_sum r.terms ≤ 2 ^ 60
+  pub degree : r.degree ≤ 2 ^ 60

@@ -64,7 +64,7 @@ fn meet(terms: &mut Vec<Term>, t: Term, u: Term) -> Result<u128, AllocError>
 }
 
 /// The first term, and the rest.
-fn next<'a>(terms: &'a [Term]) -> Option<(Term, &'a [Term])>
+pub(crate) fn next<'a>(terms: &'a [Term]) -> Option<(Term, &'a [Term])>
     ensures { MatchOption result (terms.entry.now ≡ []) (λ r. terms.entry.now ≡ r.0 ∷ r.1.now) }
 {
     match terms {
@@ -110,7 +110,7 @@ pub(crate) fn merge(alloc: Global, a: &[Term], b: &[Term]) -> Result<Joined, All
     requires b_fits { coef_sum b.now ≤ 2 ^ 120 }
     ensures { IfOk result (IsJoinOf a.now b.now) }
 {
-    let mut terms = Vec::new(alloc);
+    let mut terms = Vec::with_capacity(alloc, a.len() + b.len())?;
     let mut lost = 0;
     let mut left = a;
     let mut right = b;
@@ -165,7 +165,7 @@ pub(crate) fn join_sorted(alloc: Global, sorted: &[Term]) -> Result<Joined, Allo
     requires fits { coef_sum sorted.now ≤ 2 ^ 120 }
     ensures { IfOk result (IsJoinOf [] sorted.now) }
 {
-    let mut terms = Vec::new(alloc);
+    let mut terms = Vec::with_capacity(alloc, sorted.len())?;
     let mut lost = 0;
     let mut left = sorted;
     while let Some((t, rest)) = next(left) {

@@ -8,6 +8,7 @@ mod row;
 mod terms;
 #[cfg(test)]
 mod tests;
+mod weakening;
 
 pub use row::{Row, RowRefusal, TooBig};
 

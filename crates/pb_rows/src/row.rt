@@ -3,16 +3,18 @@
 
 ghost use Rattle.std.specs.Prelude.{◌≡◌, ◌<◌, ◌≤◌, ◌+◌, ◌*◌, ◌^◌, ◌++◌, pos, OnOk, OnErr, IsOk, IfErr, IfOk, ◌↔◌, IsTrue, not, length};
 ghost use Rattle.std.specs.List.{All};
+ghost use Rattle.std.specs.List.Sorted.{IsNonDecreasing};
 ghost use Rattle.pb_rows.specs.Terms.{IsPositive, coef_sum, positive_part};
 ghost use Rattle.pb_rows.specs.Points.{IsCovered, point_of};
 ghost use Rattle.pb_rows.specs.Normal.{all_sizes, normal_form};
-ghost use Rattle.pb_rows.specs.Rows.{AddsValues, Fits, HoldsAfter, HoldsElsewhere, HoldsWhere, HoldsWithBoth, IsWellFormedRow, add, divide, holds, opposite_row, saturate, times, weaken};
+ghost use Rattle.pb_rows.specs.Rows.{AddsValues, Fits, HoldsAfter, HoldsElsewhere, HoldsWhere, HoldsWithBoth, IsWellFormedRow, add, divide, holds, opposite_row, saturate, times, weaken, weaken_all};
 ghost use Rattle.pb_rows.specs.Closure.{literals_of, slack};
 
 use crate::MOST;
 use crate::join::{join_all, loss, merge};
 use crate::normal::{do_sizes_fit, or_zero, turned_total, without_signs};
 use crate::terms::{cap, divide, nonfalse_total, scale, total, total_over, true_total};
+use crate::weakening::without;
 use hrt_base::{NoMemory, Term, Value};
 use std::alloc::Global;
 use std::marker::Model;
@@ -211,6 +213,23 @@ impl Row {
         let gone = total_over(&self.terms, var);
         self.terms.retain(|t| t.lit.var != var);
         self.degree = self.degree.saturating_sub(gone);
+    }
+
+    /// Weakens by each of some variables that don't fall, in one pass over the terms and the variables.
+    pub fn weaken_all(&mut self, alloc: Global, vars: &[u32]) -> Result<(), NoMemory>
+        requires { IsNonDecreasing vars.now }
+        ensures is { OnOk result (self.new ≡ weaken_all vars.now self.old) }
+        ensures sound { OnOk result (HoldsAfter self.old self.new) }
+        ensures err { OnErr result (self.new ≡ self.old) }
+    {
+        match without(alloc, &self.terms, vars) {
+            Err(_) => Err(NoMemory),
+            Ok(weakened) => {
+                self.terms = weakened.terms;
+                self.degree = self.degree.saturating_sub(weakened.gone);
+                Ok(())
+            }
+        }
     }
 
     /// The same row again.

@@ -13,7 +13,7 @@ use Rattle.pb_rows.specs.Rows.{in_normal_form}
 use Rattle.pb_rows.specs.Formula.{NumberedRow, rows_of}
 use Rattle.pb_rows.proofs.Covers.{add_over, divide_over, normal_form_over, saturate_over, times_over, weaken_over}
 use Rattle.row_text.specs.Rows.{is_small_row}
-use Rattle.rup_engine.specs.Live.{IsOver}
+use Rattle.propagation.specs.Following.{IsOver}
 use Rattle.proof_lines.specs.declared.line.PolStep.{PolStep}
 use Rattle.proof_lines.specs.declared.line.PolStep.TheVariants.{Id, Axiom, Add, Times, Divide, Saturate, Weaken}
 use Rattle.proof_lines.specs.Texts.{is_spellable_literal, is_spellable_step, is_spellable_term}

@@ -6,7 +6,8 @@ use Rattle.std.proofs.lemmas.Bool.{ne_eqb}
 use Rattle.hrt_base.specs.declared.numbered.RowNo.{RowNo}
 use Rattle.pb_rows.specs.Terms.{PlainRow}
 use Rattle.pb_rows.specs.Formula.{NumberedRow, is_numbered, numbered_from, without}
-use Rattle.rup_engine.specs.Live.{IsOver, LiveRows}
+use Rattle.propagation.specs.Following.{IsOver}
+use Rattle.rup_engine.specs.Live.{LiveRows}
 use Rattle.proof_rules.specs.Refusals.{BadId}
 use Rattle.proof_rules.specs.States.{AreNumbered, State, deleted, with_row}
 use Rattle.proof_rules.proofs.Numbers.{numbered-from, numbered-push, numbered-without}

@@ -6,7 +6,7 @@ use Rattle.pb_rows.specs.Formula.{Formula, NumberedRow}
 use Rattle.proof_lines.specs.declared.line.Line.{Line}
 use Rattle.proof_rules.specs.States.{State, IsInOrder, live_rows, smaller, with_row}
 use Rattle.proof_rules.specs.Valid.{Moves, Proving}
-use Rattle.rup_engine.specs.Live.{IsOver}
+use Rattle.propagation.specs.Following.{IsOver}
 
 -- A state of a proof of a formula over the variables 1 to vars.
 pub record Kept : Type 0 where

@@ -3,7 +3,7 @@ ghost use Rattle.std.specs.Prelude.{◌≡◌, ◌<ℤ◌, ◌↔◌, ◌⊎◌,
 ghost use Rattle.pb_rows.specs.Closure.{Implies};
 ghost use Rattle.opb_text.specs.Limits.{IsWithinLimits};
 ghost use Rattle.proof_lines.specs.Spelling.{is_small_bound, is_small_claim};
-ghost use Rattle.rup_engine.specs.Live.{IsOver};
+ghost use Rattle.propagation.specs.Following.{IsOver};
 ghost use Rattle.proof_rules.specs.States.{live_rows};
 ghost use Rattle.proof_rules.specs.Claims.{HasStronger, IsUnpassed, Shows, ShowsLower, ShowsNone, ShowsUpper};
 ghost use Rattle.proof_rules.specs.Sound.{IsSoundState};

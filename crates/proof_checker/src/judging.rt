@@ -15,7 +15,7 @@ use crate::fault::Fault;
 use crate::stage::{Stage, next_stage};
 use crate::state::State;
 use opb_text::Formula;
-use proof_lines::{Claim, LineKind, LineRefusal, is_blank_text, is_end_text, next_line};
+use proof_lines::{Claim, LineKind, LineRefusal, first_line, is_blank_text, is_end_text};
 use std::alloc::Global;
 
 /// Why a line with a number that is too big is no step: it may stand out of order.
@@ -56,7 +56,7 @@ fn take_line(
     ensures taken { IfOk result (λ taken. Takes formula.now bytes.now stage state.old taken state.new) }
     ensures refused { IfErr result (StopsFirst formula.now (place_of stage state.old.state) bytes.now) }
 {
-    match next_line(alloc, bytes) {
+    match first_line(alloc, bytes) {
         Ok(None) => Ok(None),
         Ok(Some((line, len))) => {
             let next = next_stage(alloc, formula, stage, state, &line)?;

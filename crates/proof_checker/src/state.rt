@@ -5,7 +5,7 @@ ghost use Rattle.pb_rows.specs.Terms.{IsRisingFrom};
 ghost use Rattle.pb_rows.specs.Closure.{Implies, Refuted, none};
 ghost use Rattle.pb_rows.specs.Formula.{numbered_from};
 ghost use Rattle.opb_text.specs.Limits.{IsWithinLimits, most_rows};
-ghost use Rattle.rup_engine.specs.Live.{IsOver};
+ghost use Rattle.propagation.specs.Following.{IsOver};
 ghost use Rattle.proof_lines.specs.Texts.{is_spellable_step};
 ghost use Rattle.proof_rules.specs.Pol.{pol_row};
 ghost use Rattle.proof_rules.specs.States.{deleted, first_state, live_rows};

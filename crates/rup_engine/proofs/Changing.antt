@@ -15,13 +15,16 @@ use Rattle.rup_engine.specs.declared.store.Occurrence.{Occurrence}
 use Rattle.rup_engine.specs.declared.store.Slot.{Slot}
 use Rattle.rup_engine.specs.declared.store.Store.{Store}
 use Rattle.rup_engine.specs.Adding.{IsListedAt, IsReady, IsThinner, NotesAtMost}
-use Rattle.rup_engine.specs.Live.{IsOver}
+use Rattle.propagation.specs.Following.{IsOver}
 use Rattle.std.specs.declared.vec.Vec.{Vec}
 use Rattle.rup_engine.proofs.Occurrences.{in_use-at, part-elsewhere}
-use Rattle.rup_engine.specs.Slots.{HasNumber, IsOverSlot, IsSteadySlot, Slots, entries_of, entry_of, slot_at, terms_of}
+use Rattle.rup_engine.specs.Slots.{HasNumber, IsOverSlot, IsShort, IsShortSlot, IsSteadySlot, Slots, entries_of, entry_of, slot_at, terms_of}
 use Rattle.rup_engine.specs.Store.{AreAdded, AreNamed, IsSlotOf, coef_for, in_use, is_one_of, list_at, place_of, weight_on}
 use Rattle.rup_engine.proofs.Counting.{nonfalse_sum-none}
 use Rattle.rup_engine.proofs.Rounds.{row-at}
+
+short-at : (slots : Slots) → All IsShortSlot slots → (j : ℕ) → IsShortSlot (slot_at slots j)
+short-at slots a j = elim (cases_lt j (length slots)) [ inl h ↦ a j None h | inr h ↦ rw (get_or_past slots j None h) tt ]
 
 over-at : (vars : ℕ) (slots : Slots) → All (IsOverSlot vars) slots → (j : ℕ) → IsOverSlot vars (slot_at slots j)
 over-at vars slots a j = elim (cases_lt j (length slots)) [ inl h ↦ a j None h | inr h ↦ rw (get_or_past slots j None h) tt ]
@@ -32,6 +35,7 @@ pub record ChangesSlot (vars : ℕ) (old new : Store) (before after : List ℕ) 
   pub others : (j : ℕ) → j ≢ k → slot_at new.slots.items j ≡ slot_at old.slots.items j
   pub here : slot_at new.slots.items k ≡ o
   pub over : IsOverSlot vars o
+  pub short : IsShortSlot o
   pub named : AreNamed new.slots.items new.numbers
   pub alone : (j n : ℕ) → j ≢ k → HasNumber n o → HasNumber n (slot_at old.slots.items j) → ⊥
   pub fits : coef_sum (terms_of o) ≤ 2 ^ 120
@@ -86,6 +90,7 @@ module _ (vars : ℕ) (old new : Store) (before after : List ℕ) (k : ℕ) (o :
         covered = All-from_get_or (IsOverSlot vars) new.slots.items None (λ j h. by_slot (λ j o. IsOverSlot vars o) c.over (λ j ne. over-at vars old.slots.items ready.kept.slots.covered j) j);
         distinct = distinct';
         fits = by_slot (λ j o. coef_sum (terms_of o) ≤ 2 ^ 120) c.fits (λ j ne. ready.kept.slots.fits j);
+        short = All-from_get_or IsShortSlot new.slots.items None (λ j h. by_slot (λ j o. IsShortSlot o) c.short (λ j ne. short-at old.slots.items ready.kept.slots.short j) j);
       };
       named = c.named;
       places = c.lists_count ∙ ready.kept.places;
@@ -240,6 +245,7 @@ module _ (vars : ℕ) (old new : Store) (before after : List ℕ) (ready : IsRea
         others = λ j ne. same j;
         here = same k ∙ empty;
         over = tt;
+        short = tt;
         named = named-same old new ready.kept.named same (λ n. rw numbers refl);
         alone = λ j n ne h i. h;
         fits = omega arith;
@@ -256,10 +262,10 @@ module _ (vars : ℕ) (old new : Store) (before after : List ℕ) (ready : IsRea
         room = omega (arith, longer, ap length sums, length_push before 0, ready.counted.room);
       })
 
-  pub filled : (k : ℕ) (s : Slot) → k < length old.slots.items → slot_at old.slots.items k ≡ None → ((p : ℕ) → All (λ (o : Occurrence). o.slot < k) (list_at old.lists.items p)) → is_numbered s.number.0 (entries_of old.slots.items) ≡ false → IsOver vars s.row
+  pub filled : (k : ℕ) (s : Slot) → k < length old.slots.items → slot_at old.slots.items k ≡ None → ((p : ℕ) → All (λ (o : Occurrence). o.slot < k) (list_at old.lists.items p)) → is_numbered s.number.0 (entries_of old.slots.items) ≡ false → IsOver vars s.row → IsShort s.heads.items s.rest s.bound s.row
       → coef_sum s.row.terms ≤ 2 ^ 120 → new.slots.items ≡ set old.slots.items k (Some s) → IsListedAt k s.row old.lists.items new.lists.items new.tight.items
       → NotesAtMost k old.tight.items new.tight.items → Renames old.numbers new.numbers s.number.0 (Some k) → new.stale ≡ old.stale → after ≡ set before k (coef_sum s.row.terms) → IsReady vars new after
-  filled k s h empty bare fresh over fits slots listed notes renames stale sums =
+  filled k s h empty bare fresh over short fits slots listed notes renames stale sums =
       let count : length new.slots.items ≡ length old.slots.items = ap length slots ∙ length-set old.slots.items k (Some s) in
       let others : (j : ℕ) → j ≢ k → slot_at new.slots.items j ≡ slot_at old.slots.items j = λ j ne. ap (λ (x : Slots). slot_at x j) slots ∙ get_or-set_other old.slots.items k j (Some s) None ne in
       let here : slot_at new.slots.items k ≡ Some s = ap (λ (x : Slots). slot_at x k) slots ∙ get_or-set_same old.slots.items k (Some s) None h in
@@ -268,6 +274,7 @@ module _ (vars : ℕ) (old new : Store) (before after : List ℕ) (ready : IsRea
         others = others;
         here = here;
         over = over;
+        short = short;
         named = named-filled old new ready.kept.named k s others empty here renames;
         alone = λ j n ne a b. not_there s.number.0 old.slots.items fresh j (subst (λ (m : ℕ). HasNumber m (slot_at old.slots.items j)) (sym a) b);
         fits = fits;
@@ -297,6 +304,7 @@ module _ (vars : ℕ) (old new : Store) (before after : List ℕ) (ready : IsRea
         others = λ j ne. ap (λ (x : Slots). slot_at x j) slots;
         here = ap (λ (x : Slots). slot_at x k) slots ∙ empty;
         over = tt;
+        short = tt;
         named = named-unused old new ready.kept.named n (λ j. ap (λ (x : Slots). slot_at x j) slots) fresh renames;
         alone = λ j n ne h i. h;
         fits = omega arith;
@@ -325,6 +333,7 @@ module _ (vars : ℕ) (old new : Store) (before after : List ℕ) (ready : IsRea
         others = others;
         here = here;
         over = tt;
+        short = tt;
         named = named-removed old new ready.kept.named k s.number.0 others here has (λ j m a b. ready.kept.slots.distinct j k m a b) (λ m there. sym (subst (HasNumber m) at there)) renames;
         alone = λ j n ne h i. h;
         fits = omega arith;

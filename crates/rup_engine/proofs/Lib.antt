@@ -1,6 +1,6 @@
-pub mod Sets
-pub mod Tables
-pub mod Following
+pub mod Emptied
+pub mod Taking
+pub mod Picking
 pub mod Naming
 pub mod Opposites
 pub mod Occurrences
@@ -11,3 +11,5 @@ pub mod Listing
 pub mod Changing
 mod Looks
 mod Alike
+mod Queues
+mod Waiting

@@ -2,23 +2,21 @@
 ghost use Rattle.std.specs.Prelude.{◌≡◌, ◌≤◌, ◌<◌, ◌+◌, ◌^◌, [], ◌∷◌, ◌++◌, ℕ, ◌↔◌, Some, None, IsTrue, IsFalse, IfNone, IfOk, IfSome, OnOk, OnErr, length, slice_set};
 ghost use Rattle.std.specs.List.{All};
 ghost use Rattle.std.specs.Option.{option_copied};
-ghost use Rattle.pb_rows.specs.Terms.{IsPositive, coef_sum, positive_part};
+ghost use Rattle.pb_rows.specs.Terms.{coef_sum};
 ghost use Rattle.pb_rows.specs.Closure.{none};
 ghost use Rattle.pb_rows.specs.Formula.{is_numbered, row_of, without};
-ghost use Rattle.rup_engine.specs.Live.{IsOver};
+ghost use Rattle.propagation.specs.Following.{IsOver};
 ghost use Rattle.rup_engine.specs.Propagation.{IsSteady};
-ghost use Rattle.rup_engine.specs.Slots.{HasNumber, entries_of, entry_of, slot_at};
+ghost use Rattle.rup_engine.specs.Slots.{HasNumber, IsShort, entries_of, entry_of, slot_at};
 ghost use Rattle.rup_engine.specs.Adding.{IsListedAt, IsReady, NotesAtMost};
 ghost use Rattle.rup_engine.specs.Store.{AreAdded, AreNamed, is_one_of, list_at, place_of};
 
 use crate::lists::enter;
 use crate::opposite::total;
 use crate::progress::Progress;
-use crate::propagation::weight_of;
 use crate::store::{Slot, Store};
 use crate::thinning::forget;
-use crate::visit::degree_of;
-use hrt_base::{NoMemory, RowNo, Term};
+use hrt_base::{NoMemory, RowNo};
 use pb_rows::Row;
 
 /// The slot of a number. It takes the same time however many rows are live.
@@ -44,37 +42,27 @@ pub fn row_at(slots: &[Option<Slot>], place: usize, _id: RowNo) -> Option<&Row>
     }
 }
 
-/// Tells whether a term's coefficient exceeds what a sum leaves.
-fn any_exceeds(terms: &[Term], sum: u128, degree: u128) -> bool
-    requires positive { All (λ t. IsPositive t.coef) terms.now }
-    requires degree { degree < 2 ^ 127 }
-    ensures { IsFalse result → All (λ t. degree + positive_part t.coef ≤ sum) terms.now }
+/// Tells whether a row may propagate, or is falsified, while no literal is true.
+fn is_tight(slot: &Slot) -> bool
+    requires { IsShort slot.now.heads.items slot.now.rest slot.now.bound slot.now.row }
+    ensures { IsFalse result → IsSteady none (coef_sum slot.now.row.terms) slot.now.row }
 {
-    for t in terms {
-        if sum < degree + weight_of(*t) {
-            return true;
-        }
+    let terms = slot.row.terms();
+    let sum = total(terms);
+    if sum < slot.bound {
+        return true;
     }
     false
 }
 
-/// Tells whether a row propagates, or is falsified, while no literal is true.
-fn is_tight(row: &Row) -> bool
-    ensures { IsFalse result → IsSteady none (coef_sum row.now.terms) row.now }
-{
-    let terms = row.terms();
-    let sum = total(terms);
-    let degree = degree_of(row);
-    sum < degree || any_exceeds(terms, sum, degree)
-}
-
 /// Notes a row that is to be looked at first.
-fn note_tight(tight: &mut Vec<usize>, place: usize, row: &Row) -> Result<(), NoMemory>
-    ensures here { OnOk result (IsFalse (is_one_of place tight.new.items) → IsSteady none (coef_sum row.now.terms) row.now) }
+fn note_tight(tight: &mut Vec<usize>, place: usize, slot: &Slot) -> Result<(), NoMemory>
+    requires { IsShort slot.now.heads.items slot.now.rest slot.now.bound slot.now.row }
+    ensures here { OnOk result (IsFalse (is_one_of place tight.new.items) → IsSteady none (coef_sum slot.now.row.terms) slot.now.row) }
     ensures grows { NotesAtMost place tight.old.items tight.new.items }
     ensures err { OnErr result (tight.new.items ≡ tight.old.items) }
 {
-    if is_tight(row) {
+    if is_tight(slot) {
         tight.push(place)?;
     }
     Ok(())
@@ -98,18 +86,19 @@ fn open_slot(store: &mut Store, progress: &mut Progress) -> Result<usize, NoMemo
 }
 
 /// Lists the row of a slot. Where memory is wanting, some of its occurrences may stay.
-fn list_row(store: &mut Store, place: usize, row: &Row) -> Result<(), NoMemory>
-    requires places { All (λ t. place_of t.lit < length store.old.lists.items) row.now.terms }
+fn list_row(store: &mut Store, place: usize, slot: &Slot) -> Result<(), NoMemory>
+    requires places { All (λ t. place_of t.lit < length store.old.lists.items) slot.now.row.terms }
+    requires short { IsShort slot.now.heads.items slot.now.rest slot.now.bound slot.now.row }
     ensures slots { store.new.slots.items ≡ store.old.slots.items }
     ensures numbers { store.new.numbers ≡ store.old.numbers }
-    ensures ok { OnOk result (IsListedAt place row.now store.old.lists.items store.new.lists.items store.new.tight.items) }
+    ensures ok { OnOk result (IsListedAt place slot.now.row store.old.lists.items store.new.lists.items store.new.tight.items) }
     ensures grows { NotesAtMost place store.old.tight.items store.new.tight.items }
     ensures err { OnErr result (AreAdded place store.old.lists.items store.new.lists.items) }
     ensures stale { store.new.stale ≡ store.old.stale }
     ensures tight { OnErr result (store.new.tight.items ≡ store.old.tight.items) }
 {
-    enter(&mut store.lists, place, row.terms())?;
-    note_tight(&mut store.tight, place, row)?;
+    enter(&mut store.lists, place, slot.row.terms())?;
+    note_tight(&mut store.tight, place, slot)?;
     Ok(())
 }
 
@@ -126,6 +115,7 @@ fn fill_slot(
     requires bare { (p : ℕ) → All (λ o. o.slot < place) (list_at store.old.lists.items p) }
     requires fresh { IsFalse (is_numbered slot.number.0 (entries_of store.old.slots.items)) }
     requires over { IsOver progress.old.trail.vars slot.row }
+    requires short { IsShort slot.heads.items slot.rest slot.bound slot.row }
     ensures ready { IsReady progress.old.trail.vars store.new progress.new.sums.items }
     ensures trail { progress.new.trail ≡ progress.old.trail }
     ensures done { progress.new.done ≡ progress.old.done }
@@ -134,7 +124,7 @@ fn fill_slot(
 {
     let number = slot.number.0;
     store.numbers.insert(number, place)?;
-    match list_row(store, place, &slot.row) {
+    match list_row(store, place, &slot) {
         Ok(()) => {}
         Err(e) => {
             store.numbers.remove(&number);
@@ -152,6 +142,7 @@ pub fn add_row(store: &mut Store, progress: &mut Progress, slot: Slot) -> Result
     requires ready { IsReady progress.old.trail.vars store.old progress.old.sums.items }
     requires fresh { IsFalse (is_numbered slot.number.0 (entries_of store.old.slots.items)) }
     requires over { IsOver progress.old.trail.vars slot.row }
+    requires short { IsShort slot.heads.items slot.rest slot.bound slot.row }
     ensures ready { IsReady progress.old.trail.vars store.new progress.new.sums.items }
     ensures trail { progress.new.trail ≡ progress.old.trail }
     ensures done { progress.new.done ≡ progress.old.done }

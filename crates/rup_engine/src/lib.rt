@@ -4,13 +4,16 @@
 
 mod adding;
 mod closing;
+mod heads;
+mod listed;
 mod lists;
 mod live;
+mod one_row;
 mod opposite;
 #[cfg(test)]
 mod plain;
 mod progress;
-mod propagation;
+mod queue;
 mod store;
 mod stronger;
 mod sums;
@@ -21,4 +24,5 @@ mod trail;
 mod visit;
 mod visiting;
 
-pub use live::{Live, Used};
+pub use listed::Used;
+pub use live::Live;

@@ -6,43 +6,36 @@ ghost use Rattle.pb_rows.specs.Terms.{PlainRow};
 ghost use Rattle.pb_rows.specs.Points.{IsCovered};
 ghost use Rattle.pb_rows.specs.Closure.{Implies, IsClosure, Refuted, among, is_same_lit};
 ghost use Rattle.pb_rows.specs.Formula.{is_numbered, row_of, rows_of, without};
-ghost use Rattle.rup_engine.specs.Live.{AreLive, IsOver, named};
+ghost use Rattle.propagation.specs.Following.{IsOver};
+ghost use Rattle.rup_engine.specs.Live.{AreLive, named};
 
-use crate::adding::{add_row, find, remove_row, row_at};
-use crate::closing::{close, contradicts};
-use crate::opposite::Opposite;
-use crate::progress::{Progress, undo};
-use crate::store::{Slot, Store};
-use crate::stronger::any_as_strong;
+use crate::listed::{Listed, Used};
+use crate::queue::{Entry, Queue, drop_at, find, list_all, push, row_at};
+use crate::stronger::any_waiting_as_strong;
 use hrt_base::{Lit, NoMemory, RowNo};
 use pb_rows::Row;
 use std::alloc::Global;
 use std::marker::Model;
 
-/// The rows that an answer rests on, in the order of their use. A number may stand several times.
-#[derive(Drop)]
-pub struct Used {
-    pub rows: Vec<RowNo>,
-}
-
-/// The live rows by their numbers. It is seen as the number of variables and the numbered rows, oldest first.
+/// The live rows by their numbers. A row that is added waits: it is listed with its literals only when a call propagates, so a
+/// row that is removed before costs no more than its place. It is seen as the number of variables and the numbered rows, oldest
+/// first.
 #[derive(Drop)]
 pub struct Live {
-    store: Store,
-    progress: Progress,
+    listed: Listed,
+    queue: Queue,
 }
 
 impl Model for Live {
+    ghost use Rattle.std.specs.Prelude.{◌++◌};
     ghost use Rattle.rup_engine.specs.Live.{LiveRows};
+    ghost use Rattle.rup_engine.specs.Queue.{IsSplit, waiting_entries};
 
     ghost Value = { LiveRows };
 
-    ghost use Rattle.rup_engine.specs.Adding.{IsIdle};
-    ghost use Rattle.rup_engine.specs.Slots.{entries_of};
+    ghost view = { λ l. record { vars = l.listed.vars; rows = l.listed.rows ++ waiting_entries l.queue.places.items } };
 
-    ghost view = { λ l. record { vars = l.progress.trail.vars; rows = entries_of l.store.slots.items } };
-
-    ghost invariant = { λ l. IsIdle l.store l.progress };
+    ghost invariant = { λ l. IsSplit l.listed.vars l.listed.rows l.queue };
 }
 
 impl Live {
@@ -51,23 +44,19 @@ impl Live {
         ensures { IfOk result (λ l. l ≡ record { vars = vars; rows = [] }) }
     {
         Ok(Live {
-            store: Store::new(alloc, vars)?,
-            progress: Progress::new(alloc, vars)?,
+            listed: Listed::new(alloc, vars)?,
+            queue: Queue::new(alloc),
         })
     }
 
-    /// Adds a row under a number that no live row has. It takes time for each term, and nothing for other rows.
+    /// Adds a row under a number that no live row has. It looks at no term.
     pub fn add(&mut self, _alloc: Global, id: RowNo, row: Row) -> Result<(), NoMemory>
         requires fresh { IsFalse (is_numbered id.0 self.old.rows) }
         requires covered { IsOver self.old.vars row }
         ensures ok { OnOk result (self.new ≡ record self.old { rows = self.old.rows ++ record { number = id.0; row = row } ∷ [] }) }
         ensures err { OnErr result (self.new ≡ self.old) }
     {
-        match add_row(
-            &mut self.store,
-            &mut self.progress,
-            Slot { number: id, row },
-        ) {
+        match push(&mut self.queue, &self.listed, Entry { number: id, row }) {
             Ok(()) => Ok(()),
             Err(e) => Err(e),
         }
@@ -77,9 +66,9 @@ impl Live {
     pub fn get(&self, id: RowNo) -> Option<&Row>
         ensures { option_copied result ≡ row_of id.0 self.now.rows }
     {
-        match find(&self.store, id) {
-            None => None,
-            Some(place) => row_at(&self.store.slots, place, id),
+        match find(&self.queue, &self.listed, id) {
+            None => self.listed.get(id),
+            Some(place) => row_at(&self.queue.places, place, id),
         }
     }
 
@@ -87,19 +76,22 @@ impl Live {
     pub fn has_stronger(&self, row: &Row) -> bool
         ensures { IsTrue result ↔ ((other : PlainRow) × Contains (rows_of self.now.rows) other × (other.terms ≡ row.now.terms) × (row.now.degree ≤ other.degree)) }
     {
-        any_as_strong(&self.store.slots, row)
+        if any_waiting_as_strong(&self.queue.places, row) {
+            return true;
+        }
+        self.listed.has_stronger(row)
     }
 
     /// Removes the row of a number, and tells whether there was one.
-    pub fn remove(&mut self, _alloc: Global, id: RowNo) -> Result<bool, NoMemory>
+    pub fn remove(&mut self, alloc: Global, id: RowNo) -> Result<bool, NoMemory>
         ensures ok { IfOk result (λ removed. removed ≡ is_numbered id.0 self.old.rows) }
         ensures rows { OnOk result (self.new ≡ record self.old { rows = without id.0 self.old.rows }) }
         ensures err { OnErr result (self.new ≡ self.old) }
     {
-        let Some(place) = find(&self.store, id) else {
-            return Ok(false);
+        let Some(place) = find(&self.queue, &self.listed, id) else {
+            return self.listed.remove(alloc, id);
         };
-        remove_row(&mut self.store, &mut self.progress, place, id);
+        drop_at(&mut self.queue, &self.listed, place, id);
         Ok(true)
     }
 
@@ -119,9 +111,8 @@ impl Live {
         ensures err { OnErr result (out.new.items ≡ out.old.items) }
         ensures live { self.new ≡ self.old }
     {
-        let answer = close(alloc, &self.store, &mut self.progress, given, out);
-        undo(&self.store, &mut self.progress);
-        answer
+        list_all(alloc, &mut self.listed, &mut self.queue)?;
+        self.listed.closure(alloc, given, out)
     }
 
     /// Tells whether a row follows by propagation: whether the live rows and the row's opposite are refuted. Where they are,
@@ -133,13 +124,7 @@ impl Live {
         ensures numbers { IfOk result (λ used. IfSome used (λ u. AreLive self.old.rows u.rows.items)) }
         ensures live { self.new ≡ self.old }
     {
-        let opposite = Opposite::of(alloc, row)?;
-        let mut rows = Vec::new(alloc);
-        let answer = contradicts(&self.store, &opposite, &mut self.progress, &mut rows);
-        undo(&self.store, &mut self.progress);
-        if answer? {
-            return Ok(Some(Used { rows }));
-        }
-        Ok(None)
+        list_all(alloc, &mut self.listed, &mut self.queue)?;
+        self.listed.refutes(alloc, row)
     }
 }

@@ -3,7 +3,7 @@ ghost use Rattle.std.specs.Prelude.{◌≡◌, ◌≤◌, ◌<◌, ◌+◌, ◌^
 ghost use Rattle.std.specs.List.{All};
 ghost use Rattle.pb_rows.specs.Closure.{among, nonfalse_sum};
 ghost use Rattle.rup_engine.specs.Live.{UsesRows};
-ghost use Rattle.rup_engine.specs.Propagation.{Grows};
+ghost use Rattle.propagation.specs.Following.{Grows};
 ghost use Rattle.rup_engine.specs.Slots.{AreSlots, IsSteadySlot, entries_of, slot_at};
 ghost use Rattle.rup_engine.specs.Store.{AreEnough, AreSteadyBut, slots_of};
 
@@ -30,7 +30,7 @@ fn visit_slot(
 {
     match &slots[place] {
         None => Ok(false),
-        Some(slot) => visit(slot.number, &slot.row, sums[place], trail, used),
+        Some(slot) => visit(slot, sums[place], trail, used),
     }
 }
 

@@ -3,7 +3,7 @@ use Rattle.std.specs.List.{All}
 use Rattle.std.proofs.lemmas.List.{take_all, take_more}
 use Rattle.std.proofs.lemmas.List.Elements.{All-push}
 use Rattle.pb_rows.specs.Terms.{IsRisingFrom, PlainRow}
-use Rattle.rup_engine.specs.Live.{IsOver}
+use Rattle.propagation.specs.Following.{IsOver}
 use Rattle.proof_rules.proofs.Numbers.{numbered-push}
 use Rattle.proof_checker.proofs.Living.{fresh, numbered-on}
 use Rattle.proof_checker.proofs.state.first_rows.Goals as goal

@@ -1,7 +1,7 @@
 use Rattle.std.proofs.Common.{subst, sym, ◌∙◌}
 use Rattle.std.specs.List.{All}
 use Rattle.pb_rows.specs.Formula.{Formula}
-use Rattle.rup_engine.specs.Live.{IsOver}
+use Rattle.propagation.specs.Following.{IsOver}
 use Rattle.proof_checker.proofs.Living.{kept-first}
 use Rattle.proof_checker.proofs.state.State.new.Goals as goal
 

@@ -1,6 +1,6 @@
 use Rattle.std.proofs.Common.{subst, ℕ}
 use Rattle.std.specs.List.{All}
-use Rattle.rup_engine.specs.Live.{IsOver}
+use Rattle.propagation.specs.Following.{IsOver}
 use Rattle.proof_rules.specs.States.{live_rows}
 use Rattle.proof_checker.specs.Kept.{Kept}
 use Rattle.proof_checker.proofs.Covering.{pol-over}

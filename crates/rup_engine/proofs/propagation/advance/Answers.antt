@@ -1,5 +1,0 @@
-use Rattle.rup_engine.proofs.Following.{follows-falsified}
-use Rattle.rup_engine.proofs.propagation.advance.Goals as goal
-
-pub returns-then-sum-degree-clause-sound : goal.returns-then-sum-degree-clause-sound
-returns-then-sum-degree-clause-sound c = record { follows = λ rows given h below f. follows-falsified rows given _ _ c.args.sum h below c.if-sum-degree.true f }

@@ -3,7 +3,6 @@ mod ModelText
 mod Within
 mod Taking
 mod Passed
-mod Worked
 mod Variables
 mod BigNumbers
 mod ObjectiveSteps
@@ -15,4 +14,3 @@ mod SpelledLines
 mod SpelledFormula
 mod CanonicalRows
 mod ModelBack
-mod WorkedReading

@@ -1,8 +1,9 @@
 -- The text of a model is a spelling of the model's formula.
-use Rattle.std.proofs.Common.{◌≡◌, ◌∙◌, ℕ, zero, suc, ◌+◌, ◌*◌, ◌^◌, ◌≤◌, ◌==◌, nat_le, ◌&&◌, Bool, true, false, List, [], ◌∷◌, ◌++◌, length, map, filter, ℤ, pos, neg_ℤ, ◌-ℤ◌, refl, sym, ap, ap₂, subst, arith, if◌then◌else◌}
+use Rattle.std.proofs.Common.{◌≡◌, ◌∙◌, ℕ, zero, suc, ◌+◌, ◌*◌, ◌^◌, ◌≤◌, ◌==◌, nat_le, Bool, true, false, List, [], ◌∷◌, ◌++◌, length, map, filter, ℤ, pos, neg_ℤ, ◌-ℤ◌, refl, sym, ap, ap₂, subst, arith, if◌then◌else◌}
 use Rattle.std.specs.Prelude.{flat_map, slice_get, unwrap_or, option_map}
 use Rattle.std.specs.Int.RustNames.{unsigned_abs}
-use Rattle.std.specs.List.{All, AllByRecursion, list_all}
+use Rattle.std.specs.List.{All, AllByRecursion}
+use Rattle.std.proofs.lemmas.List.Elements.{recursion_from_All}
 use Rattle.std.proofs.lemmas.Bool.{and_parts, leb-true}
 use Rattle.std.proofs.lemmas.Int.{ints}
 use Rattle.std.proofs.lemmas.List.{length-map, map-append}
@@ -19,18 +20,18 @@ use Rattle.rank_tables.specs.Instance.{Lists, capacity_of, pair_at, pair_count}
 use Rattle.rank_tables.specs.WellFormed.{IsWellFormed, most_capacity, most_pairs}
 use Rattle.rank_tables.proofs.Below.{length-numbers_to}
 use Rattle.row_text.proofs.RowBack.{AllMade}
-use Rattle.rank_tables.specs.Terms.{has_post, is_as_good_for_hospital, is_as_good_for_resident}
+use Rattle.rank_tables.specs.Terms.{is_as_good_for_hospital, is_as_good_for_resident}
 use Rattle.stability_model.specs.Model.{formula, hospital_has_pair, hospital_row, hospital_rows, objective, pair_row, resident_has_pair, resident_row, resident_rows, rows, stability_coef, term, written_rows}
+use Rattle.stability_model.proofs.ShortRows.{IsModelRow, minus_sizes, objective_over, written_fine}
 use Rattle.opb_text.specs.Limits.{most_variables}
 use Rattle.opb_text.specs.Refusal.{Spells}
 use Rattle.opb_text.specs.Spelling.{canonical, header_line, model_text, objective_line, row_line}
 use Rattle.opb_text.specs.Statements.{greatest_variable}
 use Rattle.opb_text.proofs.CanonicalRows.{canonical_over, canonical_same, canonical_sizes}
-use Rattle.opb_text.proofs.ModelText.{no_opposites}
 use Rattle.opb_text.proofs.SpelledFormula.{IsFineObjective, IsFineRow, all_terms, spells}
 use Rattle.opb_text.proofs.SpelledLines.{spelling_of}
 use Rattle.opb_text.proofs.Variables.{greatest-append}
-use Rattle.opb_text.proofs.Within.{minus_sizes, numbers_covered, rows_few, some_covered, terms_over}
+use Rattle.opb_text.proofs.Within.{rows_few}
 
 -- ---- variables
 
@@ -42,77 +43,6 @@ made_over n (t ∷ ts) h over =
     let first = here.first in
     let last = here.last in
     ((record { low = omega arith; high = omega arith }, later.0), omega (arith, later.1))
-
--- ---- the rows of a model, as they are written
-
-record IsModelRow (n : ℕ) (row : Written) : Type 0 where
-  over : All (λ (t : Term). IsCovered n t.lit.var) row.terms
-  none : on_opposites row.terms ≡ pos 0
-  light : all_sizes row.terms row.at_least ≤ 2 ^ 40
-
-sizes_by : (f : ℕ → ℤ) (ps : List ℕ) → ((p : ℕ) → unsigned_abs (f p) ≤ 20001) → sizes (map (λ p. term (f p) p) ps) ≤ length ps * 20001
-sizes_by f [] h = omega arith
-sizes_by f (p ∷ ps) h = omega (arith, h p, sizes_by f ps h)
-
-filter_few : (test : ℕ → Bool) (n : ℕ) → length (filter test (numbers_to n)) ≤ n
-filter_few test n = omega (arith, length-filter test (numbers_to n), count_by-le-length test (numbers_to n), length-numbers_to n)
-
-model_row : (n : ℕ) (f : ℕ → ℤ) (test : ℕ → Bool) (at_least : ℤ) → n ≤ most_pairs → ((p : ℕ) → unsigned_abs (f p) ≤ 20001) → unsigned_abs at_least ≤ 20000
-    → IsModelRow n (record { terms = map (λ p. term (f p) p) (filter test (numbers_to n)); at_least = at_least })
-model_row n f test at_least few small right = record {
-  over = terms_over n f (filter test (numbers_to n)) (some_covered n test);
-  none = no_opposites f (filter test (numbers_to n));
-  light = omega (arith, sizes_by f (filter test (numbers_to n)) small, filter_few test n, right);
-}
-
-posts_by : (hs : List DraftHospital) (h : ℕ) → list_all (λ (d : DraftHospital). nat_le d.capacity most_capacity) hs ≡ true
-    → unwrap_or (option_map (λ (d : DraftHospital). d.capacity) (slice_get hs h)) 0 ≤ most_capacity
-posts_by [] h all = omega arith
-posts_by (d ∷ hs) zero all = leb-true d.capacity most_capacity (and_parts (nat_le d.capacity most_capacity) _ all).0
-posts_by (d ∷ hs) (suc h) all = posts_by hs h (and_parts (nat_le d.capacity most_capacity) _ all).1
-
-posts_few : (lists : Lists) → IsWellFormed lists → (h : ℕ) → capacity_of lists h ≤ most_capacity
-posts_few lists well h = posts_by lists.hospitals h well.capacities
-
-minus_size : (c : ℕ) → unsigned_abs (neg_ℤ (pos c)) ≡ c
-minus_size zero = refl
-minus_size (suc c) = refl
-
-coef_by : (own resident hospital : Bool) (c : ℕ) → c ≤ 20000 → (if own then c + 1 else if resident then c else if hospital then 1 else 0) ≤ 20001
-coef_by true resident hospital c h = omega arith
-coef_by false true hospital c h = omega arith
-coef_by false false true c h = omega arith
-coef_by false false false c h = omega arith
-
-resident_fine : (lists : Lists) → pair_count lists ≤ most_pairs → (r : ℕ) → IsModelRow (pair_count lists) (resident_row lists r)
-resident_fine lists few r = model_row (pair_count lists) (λ p. neg_ℤ (pos 1)) _ (neg_ℤ (pos 1)) few (λ p. omega arith) (omega arith)
-
-hospital_fine : (lists : Lists) → IsWellFormed lists → pair_count lists ≤ most_pairs → (h : ℕ) → IsModelRow (pair_count lists) (hospital_row lists h)
-hospital_fine lists well few h =
-    model_row (pair_count lists) (λ p. neg_ℤ (pos 1)) _ (neg_ℤ (pos (capacity_of lists h))) few (λ p. omega arith) (omega (arith, minus_size (capacity_of lists h), posts_few lists well h))
-
-pair_fine : (lists : Lists) → IsWellFormed lists → pair_count lists ≤ most_pairs → (p : ℕ) → IsModelRow (pair_count lists) (pair_row lists p)
-pair_fine lists well few p =
-    let posts : ℕ = capacity_of lists (pair_at lists p).hospital in
-    model_row (pair_count lists) (λ q. pos (stability_coef lists p q)) _ (pos posts) few
-    (λ q. coef_by (q == p) (is_as_good_for_resident lists p q) (has_post lists p && is_as_good_for_hospital lists p q) posts (posts_few lists well (pair_at lists p).hospital))
-    (posts_few lists well (pair_at lists p).hospital)
-
-each : (P : Written → Type 0) (row : ℕ → Written) (ks : List ℕ) → ((k : ℕ) → P (row k)) → AllByRecursion P (map row ks)
-each P row [] h = tt
-each P row (k ∷ ks) h = (h k, each P row ks h)
-
-both : (P : Written → Type 0) (xs ys : List Written) → AllByRecursion P xs → AllByRecursion P ys → AllByRecursion P (xs ++ ys)
-both P [] ys h k = k
-both P (x ∷ xs) ys h k = (h.0, both P xs ys h.1 k)
-
-written_fine : (lists : Lists) → IsWellFormed lists → pair_count lists ≤ most_pairs → AllByRecursion (IsModelRow (pair_count lists)) (written_rows lists)
-written_fine lists well few =
-    both (IsModelRow (pair_count lists)) (resident_rows lists ++ hospital_rows lists) (map (pair_row lists) (numbers_to (pair_count lists)))
-    (both (IsModelRow (pair_count lists)) (resident_rows lists) (hospital_rows lists)
-    (each (IsModelRow (pair_count lists)) (resident_row lists) (filter (resident_has_pair lists) (below (length lists.residents))) (resident_fine lists few))
-    (each (IsModelRow (pair_count lists)) (hospital_row lists) (filter (hospital_has_pair lists) (below (length lists.hospitals))) (hospital_fine lists well few)))
-    (each (IsModelRow (pair_count lists)) (pair_row lists) (numbers_to (pair_count lists)) (pair_fine lists well few))
 
 -- ---- as they are spelled
 
@@ -158,7 +88,7 @@ greatest_pair (suc n) =
 objective_is_fine : (lists : Lists) → pair_count lists ≤ most_pairs → IsFineObjective (objective lists)
 objective_is_fine lists few =
     let n : ℕ = pair_count lists in
-    let m = made_over n (objective lists) few (terms_over n (λ p. neg_ℤ (pos 1)) (numbers_to n) (numbers_covered n n (omega arith))) in
+    let m = made_over n (objective lists) few (objective_over lists) in
     record { made = m.0; light = omega (arith, minus_sizes (numbers_to n), length-numbers_to n); few = omega (arith, m.1) }
 
 -- ---- the text
@@ -171,7 +101,7 @@ unfolding model_text made
 model_back lists well few =
     let n : ℕ = pair_count lists in
     let spelled : List Written = map canonical (written_rows lists) in
-    let fine = written_fine lists well few in
+    let fine = recursion_from_All (IsModelRow n) (written_rows lists) (written_fine lists well few) in
     let rows_fine = all_spelled_fine n (written_rows lists) few fine in
     let count : length (written_rows lists) ≡ length (rows lists) = sym (length-map (written_rows lists) in_normal_form) in
     let count_spelled : length spelled ≡ length (written_rows lists) = length-map (written_rows lists) canonical in

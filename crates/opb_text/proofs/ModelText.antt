@@ -11,13 +11,9 @@ use Rattle.pb_rows.specs.Rows.{in_normal_form}
 use Rattle.rank_tables.specs.Numbers.{below, numbers_to}
 use Rattle.rank_tables.specs.Instance.{Lists, capacity_of, pair_at, pair_count, rising_pairs_of_hospital, pairs_of_resident}
 use Rattle.stability_model.specs.Model.{IsRow, hospital_has_pair, hospital_row, hospital_row_no, hospital_rows, objective, pair_row, resident_has_pair, resident_row, resident_row_no, resident_rows, rows, stability_coef, term, written_rows}
+use Rattle.stability_model.proofs.CoefRows.{over-opposites}
 use Rattle.opb_text.specs.Spelling.{canonical, header_line, model_text, objective_line, row_line, written_with}
 use Rattle.opb_text.specs.Sending.{hospital_line, hospital_lines, lines_to, pair_line, pair_lines, resident_line, resident_lines}
-
--- rows over pairs have no opposites
-pub no_opposites : (f : ℕ → ℤ) (ps : List ℕ) → on_opposites (map (λ p. term (f p) p) ps) ≡ pos 0
-no_opposites f [] = refl
-no_opposites f (p ∷ ps) = ap (λ z. pos 0 +ℤ z) (no_opposites f ps)
 
 as_written : (z o : ℤ) → o ≡ pos 0 → z -ℤ o ≡ z
 as_written z o e = omega (arith, ints)
@@ -82,7 +78,7 @@ pub resident_spelled : (lists : Lists) (r k : ℕ) (made : PlainRow) (z : ℤ) �
 unfolding minus
 resident_spelled lists r k made z number at is value =
     let row : Written = resident_row lists r in
-    spelled z made row (same_row made (in_normal_form row) _ at is) (no_opposites minus (pairs_of_resident lists r)) value
+    spelled z made row (same_row made (in_normal_form row) _ at is) (over-opposites minus (pairs_of_resident lists r)) value
     ∙ sym (ap (λ b. if b then row_line (canonical row) else []) (if_any (resident_has_pair lists r) _ k number))
 
 pub hospital_spelled : (lists : Lists) (h k : ℕ) (made : PlainRow) (z : ℤ) → Some k ≡ hospital_row_no lists h → slice_get (rows lists) (k - 1) ≡ Some made → IsRow lists k (hospital_row lists h) → z ≡ neg_ℤ (pos (capacity_of lists h))
@@ -90,11 +86,11 @@ pub hospital_spelled : (lists : Lists) (h k : ℕ) (made : PlainRow) (z : ℤ) �
 unfolding minus
 hospital_spelled lists h k made z number at is value =
     let row : Written = hospital_row lists h in
-    spelled z made row (same_row made (in_normal_form row) _ at is) (no_opposites minus (rising_pairs_of_hospital lists h)) value
+    spelled z made row (same_row made (in_normal_form row) _ at is) (over-opposites minus (rising_pairs_of_hospital lists h)) value
     ∙ sym (ap (λ b. if b then row_line (canonical row) else []) (if_any (hospital_has_pair lists h) _ k number))
 
 pub pair_spelled : (lists : Lists) (p k : ℕ) (made : PlainRow) (z : ℤ) → slice_get (rows lists) (k - 1) ≡ Some made → IsRow lists k (pair_row lists p) → z ≡ pos (capacity_of lists (pair_at lists p).hospital)
     → row_line (written_with z made) ≡ pair_line lists p
 pair_spelled lists p k made z at is value =
     let row : Written = pair_row lists p in
-    spelled z made row (same_row made (in_normal_form row) _ at is) (no_opposites (λ q. pos (stability_coef lists p q)) (filter (λ q. nat_lt 0 (stability_coef lists p q)) (numbers_to (pair_count lists)))) value
+    spelled z made row (same_row made (in_normal_form row) _ at is) (over-opposites (λ q. pos (stability_coef lists p q)) (filter (λ q. nat_lt 0 (stability_coef lists p q)) (numbers_to (pair_count lists)))) value

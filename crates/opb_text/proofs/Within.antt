@@ -16,21 +16,15 @@ use Rattle.rank_tables.specs.Instance.{Lists, pair_at, pair_count, rising_pairs_
 use Rattle.rank_tables.specs.WellFormed.{most_pairs}
 use Rattle.rank_tables.proofs.Below.{length-numbers_to}
 use Rattle.stability_model.specs.Model.{formula, has_any, hospital_has_pair, hospital_row, hospital_rows, objective, pair_row, resident_has_pair, resident_row, resident_rows, rows, stability_coef, term, written_rows}
+use Rattle.stability_model.proofs.ShortRows.{minus_sizes, numbers_covered, objective_over, terms_over}
 use Rattle.opb_text.specs.Limits.{IsWithinLimits}
 
 -- ---- variables
 
-abbrev pub AreOver : ℕ → List Term → Type 0
+abbrev AreOver : ℕ → List Term → Type 0
 AreOver n terms = All (λ (t : Term). IsCovered n t.lit.var) terms
 
-pub numbers_covered : (n m : ℕ) → n ≤ m → All (IsCovered m) (numbers_to n)
-numbers_covered zero m h = All-nil (IsCovered m)
-numbers_covered (suc n) m h = All-push (IsCovered m) (numbers_to n) (suc n) (numbers_covered n m (omega arith)) (record { first = omega arith; last = h })
-
-pub terms_over : (n : ℕ) (f : ℕ → ℤ) (ps : List ℕ) → All (IsCovered n) ps → AreOver n (map (λ p. term (f p) p) ps)
-terms_over n f ps h = All-map (λ (t : Term). IsCovered n t.lit.var) (λ p. term (f p) p) ps h
-
-pub some_covered : (n : ℕ) (test : ℕ → Bool) → All (IsCovered n) (filter test (numbers_to n))
+some_covered : (n : ℕ) (test : ℕ → Bool) → All (IsCovered n) (filter test (numbers_to n))
 some_covered n test = All-filter test (IsCovered n) (numbers_to n) (numbers_covered n n (omega arith))
 
 abbrev IsOver : ℕ → Written → Type 0
@@ -101,15 +95,11 @@ rows_few lists =
       some_few (hospital_row lists) (λ p. (pair_at lists p).hospital) ns (length lists.hospitals),
     )
 
-pub minus_sizes : (ps : List ℕ) → sizes (map (λ p. term (neg_ℤ (pos 1)) p) ps) ≡ length ps
-minus_sizes [] = refl
-minus_sizes (p ∷ ps) = ap (λ n. 1 + n) (minus_sizes ps) ∙ omega arith
-
 pub formula_within : (lists : Lists) → pair_count lists ≤ most_pairs → IsWithinLimits (formula lists)
 formula_within lists few = record {
   few_variables = few;
   few_rows = omega (arith, rows_few lists, few);
-  objective = terms_over (pair_count lists) (λ p. neg_ℤ (pos 1)) (numbers_to (pair_count lists)) (numbers_covered (pair_count lists) (pair_count lists) (omega arith));
+  objective = objective_over lists;
   rows = rows_over lists;
   objective_sum = omega (arith, minus_sizes (numbers_to (pair_count lists)), length-numbers_to (pair_count lists), few);
 }

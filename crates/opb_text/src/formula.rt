@@ -1,10 +1,9 @@
 // Formulas, and that of a model.
-ghost use Rattle.std.specs.Prelude.{◌≡◌, ◌-◌, slice_get, Some, IfOk};
-ghost use Rattle.rank_tables.specs.Tables.{IsPairNo};
-ghost use Rattle.stability_model.specs.Model.{formula, objective, rows};
+ghost use Rattle.std.specs.Prelude.{◌≡◌, IfOk};
+ghost use Rattle.stability_model.specs.Model.{formula, rows};
 ghost use Rattle.opb_text.specs.Limits.{IsWithinLimits};
 
-use hrt_base::{Lit, NoMemory, PairNo, Term};
+use hrt_base::{NoMemory, Term};
 use pb_rows::Row;
 use stability_model::Model;
 use std::alloc::Global;
@@ -33,34 +32,9 @@ pub fn formula_of(alloc: Global, model: &Model) -> Result<Formula, NoMemory>
 {
     Ok(Formula {
         vars: model.instance().pairs(),
-        objective: objective_of(alloc, model)?,
+        objective: model.objective_terms(alloc)?,
         rows: rows_of(alloc, model)?,
     })
-}
-
-// The term of a pair in the objective.
-fn objective_term(model: &Model, pair: PairNo) -> Term
-    requires { IsPairNo model.now pair.0 }
-    ensures { slice_get (objective model.now) (pair.0 - 1) ≡ Some result }
-{
-    Term {
-        coef: model.objective(pair),
-        lit: Lit {
-            var: pair.0,
-            neg: false,
-        },
-    }
-}
-
-/// The objective of a model.
-pub(crate) fn objective_of(alloc: Global, model: &Model) -> Result<Vec<Term>, NoMemory>
-    ensures { IfOk result (λ terms. terms.items ≡ objective model.now) }
-{
-    let mut terms = Vec::new(alloc);
-    for k in 0..model.instance().pairs() {
-        terms.push(objective_term(model, PairNo(k + 1)))?;
-    }
-    Ok(terms)
 }
 
 // The rows of a model.

@@ -9,7 +9,6 @@ ghost use Rattle.opb_text.specs.Refusal.{Spells};
 ghost use Rattle.opb_text.specs.Sending.{hospital_line, hospital_lines, pair_line, pair_lines, resident_line, resident_lines};
 ghost use Rattle.opb_text.specs.Spelling.{header_line, model_text, objective_line, row_line, written_with};
 
-use crate::formula::objective_of;
 use crate::spelled::{header_line, objective_line, row_line};
 use hrt_base::{Begun, Host, PairNo, Port, WriteEnd, write_all};
 use pb_rows::Row;
@@ -64,7 +63,7 @@ fn write_objective<H: Host>(alloc: Global, model: &Model, host: &mut H) -> Resul
     ensures part { OnErr result (SentFront H.told Port.Model (objective_line (objective model.now)) (H.world host.old) (H.world host.new)) }
     ensures failed { IsErrOf result WriteEnd.Failed → Rose (H.world host.old).write_faults (H.world host.new).write_faults }
 {
-    let terms = objective_of(alloc, model)?;
+    let terms = model.objective_terms(alloc)?;
     let text = objective_line(alloc, &terms)?;
     write_text(host, &text)
 }

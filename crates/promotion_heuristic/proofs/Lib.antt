@@ -1,4 +1,3 @@
-mod Worked
 pub mod Finding
 pub mod Counting
 pub mod Standings

@@ -10,7 +10,6 @@ mod TermRows
 mod TermSums
 mod TermTotal
 mod Turning
-mod Worked
 pub mod Below
 pub mod ListFacts
 pub mod Membership

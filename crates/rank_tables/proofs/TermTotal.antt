@@ -1,5 +1,5 @@
 -- The count of the model's terms by what the rows of residents and of hospitals say.
-use Rattle.std.proofs.Common.{◌≡◌, ℕ, zero, suc, ◌+◌, ◌*◌, ◌≤◌, ◌<◌, Bool, true, false, ◌&&◌, ◌||◌, ◌==◌, nat_le, nat_lt, if◌then◌else◌, List, [], ◌∷◌, length, map, get_or, sum_by, count_by, refl, sym, ap, ◌∙◌, inl, inr, arith, eq-eqb}
+use Rattle.std.proofs.Common.{◌≡◌, ℕ, zero, suc, ◌+◌, ◌*◌, ◌≤◌, ◌<◌, Bool, true, false, ◌||◌, ◌==◌, nat_le, nat_lt, if◌then◌else◌, List, [], ◌∷◌, length, map, get_or, sum_by, count_by, refl, sym, ap, ◌∙◌, inl, inr, arith, eq-eqb}
 use Rattle.std.specs.List.{All, list_all}
 use Rattle.std.proofs.lemmas.Bool.{cases_eq, and_parts, and_from, eqb-true, lt-ltb, le-leb, leb-true, ne_eqb}
 use Rattle.std.proofs.lemmas.List.Elements.{All-head, All-tail, filter_agree}
@@ -62,16 +62,18 @@ of_hospitals lists w h f =
 
 -- a pair other than p may have a term for one reason alone
 reasons : (e a b c : Bool) → (e ≡ true → a ≡ true) → (e ≡ true → b ≡ true) → (a ≡ true → b ≡ true → e ≡ true) →
-    one_if (e || (c && (a || b))) + (if c then one_if e else 0) + (if c then one_if e else 0) ≡ one_if e + (if c then one_if a else 0) + (if c then one_if b else 0)
-reasons true a b false f g h = refl
-reasons false a b false f g h = refl
+    one_if (e || (if a then c else b)) + (if c then one_if e else 0) ≡ (if c then one_if a else 0) + one_if b
 reasons true true true true f g h = refl
-reasons true true false true f g h = absurd (cc (g refl))
-reasons true false b true f g h = absurd (cc (f refl))
-reasons false true true true f g h = absurd (cc (h refl refl))
+reasons true true true false f g h = refl
+reasons true false b c f g h = absurd (cc (f refl))
+reasons true a false c f g h = absurd (cc (g refl))
+reasons false true true c f g h = absurd (cc (h refl refl))
 reasons false true false true f g h = refl
+reasons false true false false f g h = refl
 reasons false false true true f g h = refl
+reasons false false true false f g h = refl
 reasons false false false true f g h = refl
+reasons false false false false f g h = refl
 
 both_reasons : (lists : Lists) → IsWellFormed lists → (p q : ℕ) → IsPairNo lists p → IsPairNo lists q →
     is_as_good_for_resident lists p q ≡ true → is_as_good_for_hospital lists p q ≡ true → (q == p) ≡ true
@@ -81,8 +83,7 @@ both_reasons lists w p q np nq h k =
     eq-eqb q p (pairs-apart lists w q p nq np (eqb-true _ _ one.0) (eqb-true _ _ two.0))
 
 one_term : (lists : Lists) → IsWellFormed lists → (p q : ℕ) → IsPairNo lists p → IsPairNo lists q →
-    one_if (has_term lists p q) + (if has_post lists p then one_if (q == p) else 0) + (if has_post lists p then one_if (q == p) else 0)
-    ≡ one_if (q == p) + (if has_post lists p then one_if (is_as_good_for_resident lists p q) else 0) + (if has_post lists p then one_if (is_as_good_for_hospital lists p q) else 0)
+    one_if (has_term lists p q) + (if has_post lists p then one_if (q == p) else 0) ≡ (if has_post lists p then one_if (is_as_good_for_resident lists p q) else 0) + one_if (is_as_good_for_hospital lists p q)
 one_term lists w p q np nq =
     reasons (q == p) (is_as_good_for_resident lists p q) (is_as_good_for_hospital lists p q) (has_post lists p)
     (λ e. let same : q ≡ p = eqb-true q p e in and_from _ _ (eq-eqb _ _ (ap (λ k. (pair_at lists k).resident) same)) (le-leb _ _ (let r : rank_by_resident lists q ≡ rank_by_resident lists p = ap (rank_by_resident lists) same in omega arith)))
@@ -116,33 +117,19 @@ one_equal p (suc n) l m = elim (cases_eq (suc n) p) [
       omega (arith, sum_by_push (λ q. one_if (q == p)) (numbers_to n) (suc n), one_equal p n l (omega (arith, other)), last)
 ]
 
--- three sums of a pair's row on either side
-added : (own itself one high_r high_h post r h left right : ℕ) → left ≡ own + itself + itself → right ≡ one + high_r + high_h → left ≡ right →
-    itself ≡ post → one ≡ 1 → high_r ≡ r → high_h ≡ h → own + post + post ≡ 1 + r + h
-added own itself one high_r high_h post r h left right a b c d e f g = omega arith
-
-sum_of_three : (f g h : ℕ → ℕ) (xs : List ℕ) → sum_by (λ x. f x + g x + h x) xs ≡ sum_by f xs + sum_by g xs + sum_by h xs
-sum_of_three f g h xs = sum_add (λ x. f x + g x) h xs ∙ ap (λ n. n + sum_by h xs) (sum_add f g xs)
-
 row_terms : (lists : Lists) → IsWellFormed lists → (p : ℕ) → IsPairNo lists p →
-    count_by (has_term lists p) (numbers_to (pair_count lists)) + one_if (has_post lists p) + one_if (has_post lists p)
-    ≡ 1 + (if has_post lists p then count_by (is_as_good_for_resident lists p) (numbers_to (pair_count lists)) else 0)
-    + (if has_post lists p then count_by (is_as_good_for_hospital lists p) (numbers_to (pair_count lists)) else 0)
+    count_by (has_term lists p) (numbers_to (pair_count lists)) + one_if (has_post lists p)
+    ≡ (if has_post lists p then count_by (is_as_good_for_resident lists p) (numbers_to (pair_count lists)) else 0) + count_by (is_as_good_for_hospital lists p) (numbers_to (pair_count lists))
 row_terms lists w p number =
     let ns = numbers_to (pair_count lists) in
     let c = has_post lists p in
-    let one = one_equal p (pair_count lists) number.0 number.1 in
-    let itself : ℕ → ℕ = λ q. if c then one_if (q == p) else 0 in
-    let for_resident : ℕ → ℕ = λ q. if c then one_if (is_as_good_for_resident lists p q) else 0 in
-    let for_hospital : ℕ → ℕ = λ q. if c then one_if (is_as_good_for_hospital lists p q) else 0 in
-    added _ _ _ _ _ _ _ _ _ _
-    (sum_of_three (λ q. one_if (has_term lists p q)) itself itself ns)
-    (sum_of_three (λ q. one_if (q == p)) for_resident for_hospital ns)
-    (sum_agree _ _ ns (λ k d l. let q = get_or ns k d in one_term lists w p q number (numbers_to-within (pair_count lists) (pair_count lists) (omega arith) k d l)))
-    (sum_if c (λ q. one_if (q == p)) ns ∙ ap (λ n. if c then n else 0) one)
-    one
-    (sum_if c (λ q. one_if (is_as_good_for_resident lists p q)) ns)
-    (sum_if c (λ q. one_if (is_as_good_for_hospital lists p q)) ns)
+    let itself : sum_by (λ q. if c then one_if (q == p) else 0) ns ≡ one_if c =
+    sum_if c (λ q. one_if (q == p)) ns ∙ ap (λ n. if c then n else 0) (one_equal p (pair_count lists) number.0 number.1) in
+    ap (λ n. count_by (has_term lists p) ns + n) (sym itself)
+    ∙ sym (sum_add (λ q. one_if (has_term lists p q)) (λ q. if c then one_if (q == p) else 0) ns)
+    ∙ sum_agree _ _ ns (λ k d l. let q = get_or ns k d in one_term lists w p q number (numbers_to-within (pair_count lists) (pair_count lists) (omega arith) k d l))
+    ∙ sum_add (λ q. if c then one_if (is_as_good_for_resident lists p q) else 0) (λ q. one_if (is_as_good_for_hospital lists p q)) ns
+    ∙ ap (λ n. n + count_by (is_as_good_for_hospital lists p) ns) (sum_if c (λ q. one_if (is_as_good_for_resident lists p q)) ns)
 
 -- ---- the whole
 
@@ -157,10 +144,10 @@ terms-counted lists w by_residents by_hospitals first second =
     let resident : ℕ → ℕ = λ p. (pair_at lists p).resident in
     let hospital : ℕ → ℕ = λ p. (pair_at lists p).hospital in
     let high_r : ℕ → ℕ = λ p. if has_post lists p then count_by (is_as_good_for_resident lists p) ns else 0 in
-    let high_h : ℕ → ℕ = λ p. if has_post lists p then count_by (is_as_good_for_hospital lists p) ns else 0 in
+    let high_h : ℕ → ℕ = λ p. count_by (is_as_good_for_hospital lists p) ns in
     let posts : ℕ → ℕ = λ p. one_if (has_post lists p) in
     let own : ℕ → ℕ = λ p. count_by (has_term lists p) ns in
-    let each : sum_by (λ p. own p + posts p + posts p) ns ≡ sum_by (λ p. 1 + high_r p + high_h p) ns =
+    let each : sum_by (λ p. own p + posts p) ns ≡ sum_by (λ p. high_r p + high_h p) ns =
     sum_agree _ _ ns (λ k d l. row_terms lists w (get_or ns k d) (numbers_to-within (pair_count lists) (pair_count lists) (omega arith) k d l)) in
     let count : length ns ≡ pair_count lists = length-numbers_to (pair_count lists) in
     let ones : sum_by (λ p. 1) ns ≡ length ns = sym (length_is_sum ns) in
@@ -170,12 +157,11 @@ terms-counted lists w by_residents by_hospitals first second =
     let d = rows-counting hospital (pair_ranked Hospital lists) ns (length lists.hospitals) (pairs_as_listed lists) (of_hospitals lists w) (hospitals_within lists) in
     let in_residents = rows-length resident ns (length lists.residents) (residents_within lists) in
     let in_hospitals = rows-length hospital ns (length lists.hospitals) (hospitals_within lists) in
-    let left : sum_by own ns + sum_by posts ns + sum_by posts ns ≡ sum_by (λ p. 1) ns + sum_by high_r ns + sum_by high_h ns =
-    sym (sum_of_three own posts posts ns) ∙ each ∙ sum_of_three (λ p. 1) high_r high_h ns in
+    let left : sum_by own ns + sum_by posts ns ≡ sum_by high_r ns + sum_by high_h ns = sym (sum_add own posts ns) ∙ each ∙ sum_add high_r high_h ns in
     let of_r : by_residents + sum_by posts ns ≡ sum_by high_r ns = ap (λ n. by_residents + n) (sym b) ∙ first ∙ a in
-    let of_h : by_hospitals + sum_by posts ns ≡ sum_by high_h ns = ap (λ n. by_hospitals + n) (sym d) ∙ second ∙ c in
+    let of_h : by_hospitals + sum_by (λ p. 1) ns ≡ sum_by high_h ns = ap (λ n. by_hospitals + n) (sym d) ∙ second ∙ c in
     total (pair_count lists) by_residents by_hospitals (sum_by own ns) (sum_by posts ns) (sum_by high_r ns) (sum_by high_h ns) (sum_by (λ p. 1) ns) (length ns) _ _ left of_r of_h ones count in_residents in_hospitals
   where
-    total : (n x y own posts high low ones len r h : ℕ) → own + posts + posts ≡ ones + high + low → x + posts ≡ high → y + posts ≡ low → ones ≡ len → len ≡ n → r ≡ len → h ≡ len →
+    total : (n x y own posts high low ones len r h : ℕ) → own + posts ≡ high + low → x + posts ≡ high → y + ones ≡ low → ones ≡ len → len ≡ n → r ≡ len → h ≡ len →
         3 * n + x + y ≡ r + h + own
     total n x y own posts high low ones len r h p q s t u v z = omega arith

@@ -17,10 +17,11 @@ no_entry = record { resident = 0; hospital = 0; resident_rank = 0; hospital_rank
 abbrev pub capacity_in : List DraftHospital → ℕ → ℕ
 capacity_in hospitals h = unwrap_or (option_map (λ hospital. hospital.capacity) (slice_get hospitals h)) 0
 
--- the rank that a side gives a pair; the pair counts where its hospital has a post
+-- the rank that a side gives a pair, and whether the pair counts: in the row of its resident where its hospital has a post, in that
+-- of its hospital always
 abbrev pub ranked_of : Side → List DraftHospital → PairEntry → Ranked
 ranked_of Resident hospitals entry = record { rank = entry.resident_rank; counts = nat_lt 0 (capacity_in hospitals entry.hospital) }
-ranked_of Hospital hospitals entry = record { rank = entry.hospital_rank; counts = nat_lt 0 (capacity_in hospitals entry.hospital) }
+ranked_of Hospital hospitals entry = record { rank = entry.hospital_rank; counts = true }
 
 -- the pairs of a row as a side ranks them
 abbrev pub ranked_row : Side → List DraftHospital → List PairEntry → List PairNo → List Ranked

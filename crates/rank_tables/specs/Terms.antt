@@ -1,5 +1,5 @@
 -- How many terms the rows of the 0/1 model of an instance have.
-use Rattle.std.specs.Prelude.{ℕ, ◌+◌, Bool, ◌&&◌, ◌||◌, ◌==◌, nat_le, nat_lt, length, count_by, sum_by}
+use Rattle.std.specs.Prelude.{ℕ, ◌+◌, Bool, ◌&&◌, ◌||◌, ◌==◌, nat_le, nat_lt, if◌then◌else◌, length, count_by, sum_by}
 use Rattle.rank_tables.specs.Numbers.{below, numbers_to}
 use Rattle.rank_tables.specs.Instance.{Lists, capacity_of, pair_at, pair_count, rising_pairs_of_hospital, pairs_of_resident, rank_by_hospital, rank_by_resident}
 
@@ -15,10 +15,10 @@ is_as_good_for_hospital lists p q = (pair_at lists q).hospital == (pair_at lists
 abbrev pub has_post : Lists → ℕ → Bool
 has_post lists p = nat_lt 0 (capacity_of lists (pair_at lists p).hospital)
 
--- whether the row of pair p has a term for pair q: for p itself and, where its hospital has a post, for another that its
--- resident or its hospital ranks at least as high
+-- whether the row of pair p has a term for pair q: for p itself, for another that its resident ranks at least as high where
+-- its hospital has a post, and for another that its hospital ranks at least as high
 abbrev pub has_term : Lists → ℕ → ℕ → Bool
-has_term lists p q = q == p || (has_post lists p && (is_as_good_for_resident lists p q || is_as_good_for_hospital lists p q))
+has_term lists p q = q == p || (if is_as_good_for_resident lists p q then has_post lists p else is_as_good_for_hospital lists p q)
 
 -- the terms of all rows: of residents, of hospitals and of pairs
 abbrev pub model_terms : Lists → ℕ

@@ -1,6 +1,6 @@
 // How many terms the rows of the 0/1 model have, counted without making the rows. Each pair stands in the row of its
-// resident, in that of its hospital and in its own. Where its hospital has a post its own row also has the other pairs of its
-// resident and of its hospital that are ranked at least as high.
+// resident, in that of its hospital and in its own. Its own row also has the other pairs of its hospital that are ranked at
+// least as high and, where the hospital has a post, those of its resident.
 ghost use Rattle.std.specs.Prelude.{◌≡◌, ◌+◌, ◌*◌, ◌<◌, ◌≤◌, ◌++◌, [], ◌∷◌, ℕ, List, length, sum_by, All, slice_index_or};
 ghost use Rattle.rank_tables.specs.Numbers.{below};
 ghost use Rattle.rank_tables.specs.Instance.{lists_of};
@@ -109,7 +109,7 @@ fn terms_of_row(
     run.terms
 }
 
-// How a side ranks a pair. Where its hospital has no post, its own row has no other pair.
+// How a side ranks a pair. Where its hospital has no post, its own row has no other pair of its resident.
 fn ranking(side: Side, hospitals: &[DraftHospital], entry: &PairEntry) -> Ranked
     requires { entry.now.hospital < length hospitals.now }
     ensures { result ≡ ranked_of side hospitals.now entry.now }
@@ -121,7 +121,7 @@ fn ranking(side: Side, hospitals: &[DraftHospital], entry: &PairEntry) -> Ranked
         },
         Side::Hospital => Ranked {
             rank: entry.hospital_rank,
-            counts: hospitals[entry.hospital as usize].capacity > 0,
+            counts: true,
         },
     }
 }

@@ -215,10 +215,10 @@ fn terms_with_posts(alloc: Global, capacity: u32) -> Result<u32, Fail>
 }
 
 // Each row of a resident and of a hospital has 2 terms. The pairs are 1 (a y), 2 (a x), 3 (b y), 4 (b x): without a post at x
-// their own rows have the pairs 1, 2, 1 3, 4; with one or two posts the second has also 1 and 4, and the fourth 2 and 3.
+// their own rows have the pairs 1, 2 4, 1 3, 2 4, and with one or two the second has also 1 and the fourth 3.
 #[test]
 fn terms(rt: HostRuntime) -> Result<(), Fail> {
-    assert_eq!(rt; terms_with_posts(rt.alloc(), 0)?, 13);
+    assert_eq!(rt; terms_with_posts(rt.alloc(), 0)?, 15);
     assert_eq!(rt; terms_with_posts(rt.alloc(), 1)?, 17);
     assert_eq!(rt; terms_with_posts(rt.alloc(), 2)?, 17);
     Ok(())

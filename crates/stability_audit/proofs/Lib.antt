@@ -2,4 +2,3 @@ mod Least
 mod Pairs
 mod Tallying
 mod Verdicts
-mod Worked

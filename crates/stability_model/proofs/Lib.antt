@@ -12,5 +12,5 @@ pub mod Counts
 pub mod GoneInNone
 pub mod GoneSteps
 pub mod SameCounts
-mod Worked
 pub mod CoefRows
+pub mod ShortRows

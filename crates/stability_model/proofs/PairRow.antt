@@ -11,7 +11,6 @@ use Rattle.pb_rows.specs.Rows.{holds, in_normal_form}
 use Rattle.pb_rows.proofs.ByNets.{holds-normal_form}
 use Rattle.rank_tables.specs.Numbers.{numbers_to, is_in}
 use Rattle.rank_tables.specs.Instance.{Lists, capacity_of, pair_at, pair_count, rank_by_hospital, rank_by_resident}
-use Rattle.rank_tables.specs.Terms.{has_post}
 use Rattle.rank_tables.specs.Stability.{blocks, hospital_wants, is_matching, uses_of_hospital}
 use Rattle.stability_model.specs.Model.{pair_row, point_of_pairs, stability_coef, term}
 pub use Rattle.rank_tables.proofs.Membership.{Matching, matching_parts}
@@ -67,20 +66,6 @@ core same good post near far c m h u =
     (term-le-sum _ same c m (λ q. same_term (same q) (good q) (near q) c)) (term-le-sum _ good c m (λ q. good_term (same q) (good q) (near q) c)) (only_near same good near c m)
     ∙ ap (λ b. not (not (list_any same m) && not (list_any good m) && (nat_lt (count_by post m) c || b))) (sym (list_any-count far m))
 
-by_none : (c sum u n k : ℕ) (s g : Bool) → u ≡ n + k → u ≤ c → c ≤ 0 → nat_le c sum ≡ not (not s && not g && (nat_lt u c || nat_lt 0 k))
-by_none c sum u n k true g e h z = le-leb c sum (omega arith)
-by_none c sum u n k false true e h z = le-leb c sum (omega arith)
-by_none c sum u n k false false e h z = le-leb c sum (omega arith) ∙ sym (le-leb c n (omega arith)) ∙ full c u n k e h
-
--- without a post nothing is near, and the sum is always enough
-core_by_posts : (same good post near far : ℕ → Bool) (c : ℕ) (m : List ℕ) (b : Bool) → nat_lt 0 c ≡ b →
-    ((q : ℕ) → (if post q then 1 else 0) ≡ (if near q then 1 else 0) + (if far q then 1 else 0)) → count_by post m ≤ c →
-    nat_le c (sum_by (coef_by same good (λ q. b && near q) c) m) ≡ not (not (list_any same m) && not (list_any good m) && (nat_lt (count_by post m) c || list_any far m))
-core_by_posts same good post near far c m true e h u = core same good post near far c m h u
-core_by_posts same good post near far c m false e h u =
-    by_none c _ _ _ _ (list_any same m) (list_any good m) (two_kinds post near far m h) u (ltb-false 0 c e)
-    ∙ ap (λ b. not (not (list_any same m) && not (list_any good m) && (nat_lt (count_by post m) c || b))) (sym (list_any-count far m))
-
 -- ---- the pair's tests
 
 split : (b : Bool) (r s : ℕ) → (if b then 1 else 0) ≡ (if b && nat_le r s then 1 else 0) + (if b && nat_lt s r then 1 else 0)
@@ -95,11 +80,11 @@ lower false r s = refl
 pub coefs-blocks : (lists : Lists) (m : List ℕ) (p : ℕ) → uses_of_hospital lists m (pair_at lists p).hospital ≤ capacity_of lists (pair_at lists p).hospital →
     nat_le (capacity_of lists (pair_at lists p).hospital) (sum_by (stability_coef lists p) m) ≡ not (blocks lists m p)
 coefs-blocks lists m p u =
-    core_by_posts (λ q. q == p) (λ q. (pair_at lists q).resident == (pair_at lists p).resident && nat_le (rank_by_resident lists q) (rank_by_resident lists p))
+    core (λ q. q == p) (λ q. (pair_at lists q).resident == (pair_at lists p).resident && nat_le (rank_by_resident lists q) (rank_by_resident lists p))
     (λ q. (pair_at lists q).hospital == (pair_at lists p).hospital)
     (λ q. (pair_at lists q).hospital == (pair_at lists p).hospital && nat_le (rank_by_hospital lists q) (rank_by_hospital lists p))
     (λ q. (pair_at lists q).hospital == (pair_at lists p).hospital && nat_lt (rank_by_hospital lists p) (rank_by_hospital lists q))
-    (capacity_of lists (pair_at lists p).hospital) m (has_post lists p) refl
+    (capacity_of lists (pair_at lists p).hospital) m
     (λ q. split ((pair_at lists q).hospital == (pair_at lists p).hospital) (rank_by_hospital lists q) (rank_by_hospital lists p)) u
     ∙ ap (λ b. not (not (is_in p m) && b && hospital_wants lists m p))
     (sym (list_all-none _ _ m (λ q. lower ((pair_at lists q).resident == (pair_at lists p).resident) (rank_by_resident lists q) (rank_by_resident lists p))))

@@ -13,7 +13,6 @@ use Rattle.pb_rows.proofs.ByNets.{normal_form-same}
 use Rattle.rank_tables.specs.Numbers.{numbers_to}
 use Rattle.std.specs.Prelude.{unwrap_or}
 use Rattle.rank_tables.specs.Instance.{Lists, capacity_of, groups_of_resident, rank_in, pair_at, pair_count, rising_pairs_of_hospital, pairs_of_resident, rank_by_hospital, rank_by_resident}
-use Rattle.rank_tables.specs.Terms.{has_post, is_as_good_for_resident}
 use Rattle.stability_model.specs.Model.{pair_row, stability_coef}
 use Rattle.stability_model.specs.Making.{counted_terms, hospital_share, resident_share}
 use Rattle.rank_tables.proofs.Numbers.{sum_by-filter, sum_by_same}
@@ -31,7 +30,7 @@ sum_by-plus : (f g : ℕ → ℕ) (qs : List ℕ) → sum_by f qs + sum_by g qs 
 sum_by-plus f g [] = refl
 sum_by-plus f g (q ∷ qs) = omega (arith, sum_by-cons f q qs, sum_by-cons g q qs, sum_by-cons (λ q. f q + g q) q qs, sum_by-plus f g qs)
 
--- t: the pair is taken; e: it is p; a, b: it is of p's resident, of its hospital; n, m: it counts there
+-- t: the pair is taken; e: it is p; a, b: it is of p's resident, of its hospital; n, m: it is ranked at least as high there
 abbrev Parts : Bool → Bool → Bool → Bool → Bool → Bool → ℕ → Type 0
 Parts t e a b n m c =
     (if a then (if t then (if e then c + 1 else (if n then c else 0)) else 0) else 0) + (if b then (if t then (if a then 0 else (if m then 1 else 0)) else 0) else 0)
@@ -53,11 +52,6 @@ parts true false false true n true c h k = refl
 parts true false false true n false c h k = refl
 parts true false false false n m c h k = refl
 
-with_post : (b w m : Bool) → (b && (w && m)) ≡ (w && (b && m))
-with_post true w m = refl
-with_post false true m = refl
-with_post false false m = refl
-
 same_rank : (lists : Lists) (p q : ℕ) → (pair_at lists q).resident ≡ (pair_at lists p).resident → (pair_at lists q).hospital ≡ (pair_at lists p).hospital → rank_by_resident lists q ≡ rank_by_resident lists p
 same_rank lists p q e f =
     ap₂ (λ r h. unwrap_or (rank_in (groups_of_resident lists r) h) 0) e f
@@ -68,11 +62,9 @@ coef_parts : (lists : Lists) (point : Point) (p q : ℕ) →
     ≡ (if point q then stability_coef lists p q else 0)
 coef_parts lists point p q =
     parts (point q) (q == p) ((pair_at lists q).resident == (pair_at lists p).resident) ((pair_at lists q).hospital == (pair_at lists p).hospital)
-    (nat_le (rank_by_resident lists q) (rank_by_resident lists p)) (has_post lists p && nat_le (rank_by_hospital lists q) (rank_by_hospital lists p)) (capacity_of lists (pair_at lists p).hospital)
+    (nat_le (rank_by_resident lists q) (rank_by_resident lists p)) (nat_le (rank_by_hospital lists q) (rank_by_hospital lists p)) (capacity_of lists (pair_at lists p).hospital)
     (λ e. eq-eqb _ _ (ap (λ k. (pair_at lists k).resident) (eqb-true q p e)))
     (λ a b. let s = same_rank lists p q (eqb-true _ _ a) (eqb-true _ _ b) in le-leb _ _ (omega (arith, s)))
-    ∙ ap (λ (x : Bool). if point q then (if q == p then capacity_of lists (pair_at lists p).hospital + 1 else if is_as_good_for_resident lists p q then capacity_of lists (pair_at lists p).hospital else if x then 1 else 0) else 0)
-    (with_post ((pair_at lists q).hospital == (pair_at lists p).hospital) (has_post lists p) (nat_le (rank_by_hospital lists q) (rank_by_hospital lists p)))
 
 pub pair_terms_value : (lists : Lists) (p : ℕ) (point : Point) →
     value_at point (counted_terms (resident_share lists p) (pairs_of_resident lists (pair_at lists p).resident) ++ counted_terms (hospital_share lists p) (rising_pairs_of_hospital lists (pair_at lists p).hospital))

@@ -6,7 +6,7 @@ use Rattle.std.proofs.lemmas.List.Sums.{length-filter, sum_by-append, sum_by-con
 use Rattle.hrt_base.specs.declared.literal.Term.{Term}
 use Rattle.rank_tables.specs.Numbers.{below, numbers_to}
 use Rattle.rank_tables.specs.Instance.{Lists, capacity_of, pair_at, pair_count, rising_pairs_of_hospital, pairs_of_resident}
-use Rattle.rank_tables.specs.Terms.{has_post, has_term, is_as_good_for_hospital, is_as_good_for_resident, model_terms}
+use Rattle.rank_tables.specs.Terms.{has_term, is_as_good_for_hospital, is_as_good_for_resident, model_terms}
 use Rattle.stability_model.specs.Model.{at_most, has_any, hospital_rows, pair_row, resident_rows, stability_coef, term_count, written_rows}
 use Rattle.rank_tables.proofs.Numbers.{sum_by-filter, sum_by_same}
 
@@ -25,14 +25,11 @@ at_most_terms c pairs n =
     one f [] = refl
     one f (p ∷ ps) = length-map (p ∷ ps) f
 
-has_step : (e a b : Bool) (c : ℕ) (w : Bool) → nat_lt 0 c ≡ w → nat_lt 0 (if e then c + 1 else if a then c else if w && b then 1 else 0) ≡ (e || (w && (a || b)))
-has_step true a b c w i = lt-ltb 0 (c + 1) (omega arith)
-has_step false true b c true i = i
-has_step false true b c false i = i
-has_step false false true c true i = refl
-has_step false false true c false i = refl
-has_step false false false c true i = refl
-has_step false false false c false i = refl
+has_step : (e a b : Bool) (c : ℕ) → nat_lt 0 (if e then c + 1 else if a then c else if b then 1 else 0) ≡ (e || (if a then nat_lt 0 c else b))
+has_step true a b c = lt-ltb 0 (c + 1) (omega arith)
+has_step false true b c = refl
+has_step false false true c = refl
+has_step false false false c = refl
 
 pair_terms_count : (lists : Lists) (p : ℕ) → term_count (pair_row lists p) ≡ count_by (has_term lists p) (numbers_to (pair_count lists))
 pair_terms_count lists p =
@@ -40,7 +37,7 @@ pair_terms_count lists p =
     length-map (filter (λ q. nat_lt 0 (stability_coef lists p q)) ns) _
     ∙ length-filter (λ q. nat_lt 0 (stability_coef lists p q)) ns
     ∙ sum_by_same _ _ ns (λ q. ap (λ b. if b then 1 else 0) (has_step (q == p)
-    (is_as_good_for_resident lists p q) (is_as_good_for_hospital lists p q) (capacity_of lists (pair_at lists p).hospital) (has_post lists p) refl))
+    (is_as_good_for_resident lists p q) (is_as_good_for_hospital lists p q) (capacity_of lists (pair_at lists p).hospital)))
 
 pub terms_counted : (lists : Lists) → model_terms lists ≡ sum_by term_count (written_rows lists)
 terms_counted lists =

@@ -1,15 +1,16 @@
 -- The 0/1 model of weak stability, after Kwanashie and Manlove (2014). Variable p is pair number p.
-use Rattle.std.specs.Prelude.{◌≡◌, ℕ, ◌+◌, ◌-◌, Bool, true, false, not, ◌&&◌, ◌==◌, nat_lt, if◌then◌else◌, List, [], ◌∷◌, ◌++◌, length, map, filter, count_by, slice_get, Option, Some, None, ℤ, pos, neg_ℤ}
-use Rattle.std.specs.List.{list_all}
+use Rattle.std.specs.Prelude.{◌≡◌, ◌≤◌, ℕ, ◌+◌, ◌-◌, Bool, true, false, not, ◌&&◌, ◌==◌, nat_lt, if◌then◌else◌, List, [], ◌∷◌, ◌++◌, length, map, filter, count_by, slice_get, Option, Some, None, ℤ, pos, neg_ℤ}
+use Rattle.std.specs.List.{All, list_all}
 use Rattle.hrt_base.specs.declared.literal.Term.{Term}
 use Rattle.pb_rows.specs.Terms.{PlainRow, Written}
-use Rattle.pb_rows.specs.Points.{Point, value_at}
-use Rattle.pb_rows.specs.Rows.{holds, in_normal_form}
+use Rattle.pb_rows.specs.Points.{IsCovered, Point, value_at}
+use Rattle.pb_rows.specs.Rows.{IsShort, IsWellFormedRow, holds, in_normal_form}
 use Rattle.pb_rows.specs.Formula.{Formula}
 use Rattle.rank_tables.specs.Numbers.{below, numbers_to, is_in}
 use Rattle.rank_tables.specs.Instance.{Lists, capacity_of, pair_at, pair_count, rising_pairs_of_hospital, pairs_of_resident}
-use Rattle.rank_tables.specs.Terms.{has_post, is_as_good_for_hospital, is_as_good_for_resident}
+use Rattle.rank_tables.specs.Terms.{is_as_good_for_hospital, is_as_good_for_resident}
 use Rattle.rank_tables.specs.Stability.{blocks, is_matching, is_weakly_stable}
+use Rattle.rank_tables.specs.WellFormed.{IsWellFormed, most_pairs}
 
 -- a coefficient on the variable of a pair
 abbrev pub term : ℤ → ℕ → Term
@@ -52,13 +53,13 @@ hospital_rows lists = map (hospital_row lists) (filter (hospital_has_pair lists)
 
 -- ---- the rows of pairs
 
--- the coefficient of pair q in the row of pair p, whose hospital has c posts: c + 1 for p itself; where c isn't 0, c for another
--- that its resident ranks at least as high and 1 for another that its hospital ranks at least as high; else 0
+-- the coefficient of pair q in the row of pair p, whose hospital has c posts: c + 1 for p itself, c for another that its
+-- resident ranks at least as high, 1 for another that its hospital ranks at least as high, else 0
 abbrev pub stability_coef : Lists → ℕ → ℕ → ℕ
 stability_coef lists p q =
     if q == p then capacity_of lists (pair_at lists p).hospital + 1
     else if is_as_good_for_resident lists p q then capacity_of lists (pair_at lists p).hospital
-    else if has_post lists p && is_as_good_for_hospital lists p q then 1
+    else if is_as_good_for_hospital lists p q then 1
     else 0
 
 -- the row of pair p, whose hospital has c posts: with these coefficients the sum is at least c; terms with coefficient 0 are left out
@@ -106,6 +107,22 @@ pair_row_no lists p = length (resident_rows lists) + length (hospital_rows lists
 -- row number k is the normal form of this one
 abbrev pub IsRow : Lists → ℕ → Written → Type 0
 IsRow lists k row = slice_get (rows lists) (k - 1) ≡ Some (in_normal_form row)
+
+-- ---- how large the rows are
+
+-- a well-formed row over the variables 1 to `vars` whose numbers are at most 2^60
+pub record IsShortRow (vars : ℕ) (r : PlainRow) : Type 0 where
+  pub over : All (λ t. IsCovered vars t.lit.var) r.terms
+  pub formed : IsWellFormedRow r
+  pub short : IsShort r
+
+-- each of these is such a row
+pub record AreShortRows (vars : ℕ) (rs : List PlainRow) : Type 0 where
+  pub each : All (IsShortRow vars) rs
+
+-- each row of a model is one
+pub record ModelRowsAreShort : Type 0 where
+  pub of_each : (lists : Lists) → IsWellFormed lists → pair_count lists ≤ most_pairs → AreShortRows (pair_count lists) (rows lists)
 
 -- ---- what the model says
 

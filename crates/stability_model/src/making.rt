@@ -3,7 +3,7 @@ ghost use Rattle.std.specs.Prelude.{◌≡◌, ◌+◌, ◌<◌, ◌≤◌, ◌^
 ghost use Rattle.pb_rows.specs.Rows.{in_normal_form};
 ghost use Rattle.rank_tables.specs.Numbers.{below, numbers_to};
 ghost use Rattle.rank_tables.specs.Instance.{pair_at, pair_count, rising_pairs_of_hospital};
-ghost use Rattle.rank_tables.specs.WellFormed.{most_capacity};
+ghost use Rattle.rank_tables.specs.WellFormed.{IsWellFormed, most_capacity, most_pairs};
 ghost use Rattle.rank_tables.specs.Tables.{IsPairNo, numbers_of};
 ghost use Rattle.stability_model.specs.Model.{at_most, hospital_row_no, hospital_rows, pair_row, resident_row_no, resident_rows};
 ghost use Rattle.stability_model.specs.Making.{bucket_at, number_after, row_if_any};
@@ -50,6 +50,7 @@ pub fn push_resident_rows(
     ensures rows { OnOk result (rows.new.items ≡ map in_normal_form (resident_rows inst.now)) }
     ensures numbers { IfOk result (λ numbers. numbers.items ≡ map (resident_row_no inst.now) (below (length inst.now.residents))) }
     ensures few { OnOk result (length rows.new.items ≤ 20000) }
+    ensures formed { IsWellFormed inst.now }
 {
     let mut numbers = Vec::new(alloc);
     for r in 0..inst.residents() {
@@ -103,6 +104,7 @@ pub fn push_pair_rows(
     requires each { (h : ℕ) → numbers_of (bucket_at buckets.now h) ≡ rising_pairs_of_hospital inst.now h }
     ensures rows { OnOk result (rows.new.items ≡ rows.old.items ++ map in_normal_form (map (pair_row inst.now) (numbers_to (pair_count inst.now)))) }
     ensures few { OnOk result (length rows.new.items ≤ length rows.old.items + 100000) }
+    ensures few_pairs { pair_count inst.now ≤ most_pairs }
 {
     for k in 0..inst.pairs() {
         let p = PairNo(k + 1);

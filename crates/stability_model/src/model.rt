@@ -1,12 +1,15 @@
 // The model of an instance.
 ghost use Rattle.std.specs.Prelude.{◌≡◌, ◌-◌, ◌<◌, ◌≤◌, length, sum_by, slice_get, Some, IfOk, IfSome};
+ghost use Rattle.rank_tables.specs.Instance.{pair_count};
+ghost use Rattle.rank_tables.specs.WellFormed.{most_pairs};
 ghost use Rattle.rank_tables.specs.Tables.{IsPairNo};
 ghost use Rattle.rank_tables.specs.Terms.{model_terms};
-ghost use Rattle.stability_model.specs.Model.{IsExact, IsRow, TellsBlocking, hospital_row, hospital_row_no, objective, pair_row, pair_row_no, resident_row, resident_row_no, rows, term, term_count, written_rows};
+ghost use Rattle.stability_model.specs.Model.{AreShortRows, IsExact, IsRow, TellsBlocking, hospital_row, hospital_row_no, objective, pair_row, pair_row_no, resident_row, resident_row_no, rows, term, term_count, written_rows};
 
 use crate::buckets::pairs_by_hospital;
 use crate::making::{push_hospital_rows, push_pair_rows, push_resident_rows};
-use hrt_base::{NoMemory, PairNo};
+use crate::terms::objective_terms;
+use hrt_base::{NoMemory, PairNo, Term};
 use pb_rows::Row;
 use rank_tables::Instance;
 use std::alloc::Global;
@@ -72,10 +75,20 @@ impl<'a> Model<'a> {
         -1
     }
 
-    /// How many rows there are, at most 140,000.
+    /// The terms of the objective, one for each pair, in order.
+    pub fn objective_terms(&self, alloc: Global) -> Result<Vec<Term>, NoMemory>
+        ensures is { IfOk result (λ terms. terms.items ≡ objective self.now) }
+        ensures few { pair_count self.now ≤ most_pairs }
+    {
+        Ok(objective_terms(alloc, self.inst.pairs())?)
+    }
+
+    /// How many rows there are, at most 140,000. Each is over the variables of the pairs, and its coefficients sum to at most
+    /// 2^60, as is its degree (`short`).
     pub fn row_count(&self) -> u32
         ensures count { result ≡ length (rows self.now) }
         ensures few { result ≤ 140000 }
+        ensures short { AreShortRows (pair_count self.now) (rows self.now) }
     {
         self.rows.len() as u32
     }

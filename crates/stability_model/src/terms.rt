@@ -1,5 +1,6 @@
 // The terms of the rows, before they are joined.
-ghost use Rattle.std.specs.Prelude.{◌≡◌, ◌+◌, ◌≤◌, ◌++◌, pos, neg_ℤ, false, IfOk, OnOk, All};
+ghost use Rattle.std.specs.Prelude.{◌≡◌, ◌+◌, ◌≤◌, ◌++◌, map, pos, neg_ℤ, false, IfOk, OnOk, All};
+ghost use Rattle.rank_tables.specs.Numbers.{numbers_to};
 ghost use Rattle.rank_tables.specs.Instance.{capacity_of, pair_at, pairs_of_resident};
 ghost use Rattle.rank_tables.specs.WellFormed.{most_capacity};
 ghost use Rattle.rank_tables.specs.Tables.{IsOfHospital, IsPairNo, numbers_of};
@@ -40,6 +41,17 @@ fn minus(p: PairNo) -> Term
     }
 }
 
+// The terms of the objective, for so many pairs.
+pub fn objective_terms(alloc: Global, pairs: u32) -> Result<Vec<Term>, AllocError>
+    ensures { IfOk result (λ terms. terms.items ≡ map (λ p. term (neg_ℤ (pos 1)) p) (numbers_to pairs)) }
+{
+    let mut terms = Vec::new(alloc);
+    for k in 0..pairs {
+        terms.push(minus(PairNo(k + 1)))?;
+    }
+    Ok(terms)
+}
+
 // The terms of the row that at most so many of the pairs are taken.
 pub fn minus_terms(alloc: Global, pairs: &[PairNo]) -> Result<Vec<Term>, AllocError>
     ensures { IfOk result (λ terms. terms.items ≡ (at_most 0 (numbers_of pairs.now)).terms) }
@@ -74,7 +86,6 @@ fn hospital_share(inst: &Instance, p: PairNo, q: PairNo) -> u32
     ensures { result ≡ hospital_share inst.now p.0 q.0 }
 {
     if inst.resident_of(q) != inst.resident_of(p)
-        && inst.capacity(inst.hospital_of(p)) > 0
         && inst.rank_by_hospital(q) <= inst.rank_by_hospital(p)
     {
         1

@@ -41,7 +41,7 @@ terms_of_rows-of_hospitals-requires-clause-numbers c =
 
 pub terms_of_rows-of_hospitals-requires-clause-rising : goal.terms_of_rows-of_hospitals-requires-clause-rising
 terms_of_rows-of_hospitals-requires-clause-rising c =
-    rw (c.deref-4.ensures.value, c.deref-5.ensures.value, c.deref-6.ensures.value) (λ k. (fit_hospitals (lists_of c.args.draft.now) c.requires k).rising)
+    rw (c.deref-5.ensures.value, c.deref-6.ensures.value) (λ k. (fit_hospitals (lists_of c.args.draft.now) c.requires k).rising)
 
 pub terms_of_rows-of_hospitals-requires-clause-short : goal.terms_of_rows-of_hospitals-requires-clause-short
 terms_of_rows-of_hospitals-requires-clause-short c = rw c.deref-6.ensures.value (λ k. (fit_hospitals (lists_of c.args.draft.now) c.requires k).short)
@@ -52,7 +52,7 @@ returns c =
     let r = c.terms_of_rows-of_residents.result in
     let h = c.terms_of_rows-of_hospitals.result in
     let rows = rw (c.deref.ensures.value, c.deref-2.ensures.value, c.deref-3.ensures.value) at c.terms_of_rows-of_residents.ensures.value in
-    let cols = rw (c.deref-4.ensures.value, c.deref-5.ensures.value, c.deref-6.ensures.value) at c.terms_of_rows-of_hospitals.ensures.value in
+    let cols = rw (c.deref-5.ensures.value, c.deref-6.ensures.value) at c.terms_of_rows-of_hospitals.ensures.value in
     let m : length c.args.tables.now.by_resident.items ≡ length lists.residents = sym (length-map c.args.tables.now.by_resident.items (λ row. row.items)) ∙ count-rows c.requires in
     let n : length c.args.tables.now.by_hospital.items ≡ length lists.hospitals = sym (length-map c.args.tables.now.by_hospital.items (λ row. row.items)) ∙ count-cols c.requires in
     let count : c.len.result ≡ pair_count lists = omega (arith, c.args.tables.now.entries.ok.0, count-entries c.requires, c.len.ensures) in

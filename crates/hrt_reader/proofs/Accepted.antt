@@ -1,5 +1,6 @@
 -- What no refusal but for kind 6 says of each declaration.
 use Rattle.std.proofs.Common.{◌≡◌, ℕ, suc, zero, ◌+◌, ◌<◌, ◌≤◌, max, Bool, true, false, not, ◌&&◌, ◌⊎◌, cond, List, [], ◌∷◌, ◌++◌, length, take, drop, get_or, Option, Some, None, refl, sym, ap, subst, ◌∙◌, arith, inl, inr}
+use Rattle.std.specs.Prelude.{is_none, slice_get}
 use Rattle.std.proofs.lemmas.Bool.{and_from, and_right, cases_Bool, not_from_false}
 use Rattle.std.proofs.lemmas.List.{take-append-drop, drop_more}
 use Rattle.hrt_text.specs.Text.{Row}
@@ -54,18 +55,25 @@ pub pick_parts : (b : Bool) (n : ℕ) (later : Option ℕ) → pick b n later �
 pick_parts true n later e = absurd cc
 pick_parts false n later e = (refl, e)
 
-no_one : (before : List Row) (row : Row) (after : List Row) → kind_there before row after ≡ None → (all_blank before && not (is_blank row) && not (is_header row)) ≡ false
+pub no_one : (before : List Row) (row : Row) (after : List Row) → kind_there before row after ≡ None → (all_blank before && not (is_blank row) && not (is_header row)) ≡ false
 unfolding kind_there
 no_one before row after e = (pick_parts _ 1 _ e).0
 
-no_ten : (before : List Row) (row : Row) (after : List Row) → kind_there before row after ≡ None → (is_headed before && is_finished before && not (is_blank row)) ≡ false
+pub no_nine : (before : List Row) (row : Row) (after : List Row) → kind_there before row after ≡ None → (is_none (slice_get after 0) && is_open (before ++ row ∷ [])) ≡ false
+unfolding kind_there
+no_nine before row after e =
+    let p1 = pick_parts _ 1 _ e in let p2 = pick_parts _ 2 _ p1.1 in let p3 = pick_parts _ 3 _ p2.1 in let p4 = pick_parts _ 4 _ p3.1 in
+    let p5 = pick_parts _ 5 _ p4.1 in let p7 = pick_parts _ 7 _ p5.1 in let p8 = pick_parts _ 8 _ p7.1 in
+    (pick_parts _ 9 _ p8.1).0
+
+pub no_ten : (before : List Row) (row : Row) (after : List Row) → kind_there before row after ≡ None → (is_headed before && is_finished before && not (is_blank row)) ≡ false
 unfolding kind_there
 no_ten before row after e =
     let p1 = pick_parts _ 1 _ e in let p2 = pick_parts _ 2 _ p1.1 in let p3 = pick_parts _ 3 _ p2.1 in let p4 = pick_parts _ 4 _ p3.1 in
     let p5 = pick_parts _ 5 _ p4.1 in let p7 = pick_parts _ 7 _ p5.1 in let p8 = pick_parts _ 8 _ p7.1 in let p9 = pick_parts _ 9 _ p8.1 in
     (pick_parts _ 10 _ p9.1).0
 
-only_header : (blank empty header : Bool) → blank ≡ true → empty ≡ false → (blank && not empty && not header) ≡ false → header ≡ true
+pub only_header : (blank empty header : Bool) → blank ≡ true → empty ≡ false → (blank && not empty && not header) ≡ false → header ≡ true
 only_header blank empty true b e h = refl
 only_header true false false b e h = absurd cc
 only_header true true false b e h = absurd cc
@@ -129,11 +137,13 @@ fine_from before form all e =
 fine_other : IsFine other
 fine_other = record { names = refl; posts = refl; ties = refl }
 
+pub by_form_open : (all : List Row) (i : ℕ) (row : Row) (after : List Row) → refusal_but_6 all ≡ None → drop i all ≡ row ∷ after → is_open (take i all) ≡ true → is_blank row ≡ false
+    → kind_by_form (take i all) (form_of row) (take i all ++ row ∷ after) ≡ None
+by_form_open all i row after h e opened filled = nine_none _ _ (sym (there_open (take i all) row after opened filled) ∙ line_none all i row after h e)
+
 pub by_form_at : (all : List Row) (i : ℕ) (row : Row) (after : List Row) → refusal_but_6 all ≡ None → drop i all ≡ row ∷ after → is_blank row ≡ false → is_header row ≡ false
     → kind_by_form (take i all) (form_of row) (take i all ++ row ∷ after) ≡ None
-by_form_at all i row after h e filled plain =
-    let opened : is_open (take i all) ≡ true = declared_open all i row after h e filled plain in
-    nine_none _ _ (sym (there_open (take i all) row after opened filled) ∙ line_none all i row after h e)
+by_form_at all i row after h e filled plain = by_form_open all i row after h e (declared_open all i row after h e filled plain) filled
 
 blank_is : (row : Row) → is_blank row ≡ true → [] ≡ row
 blank_is [] h = refl
@@ -147,9 +157,7 @@ fine_at all i row after h e =
           elim (cases_Bool (is_header row)) [
             | inl header ↦ subst IsFine (sym (header_form row header)) fine_other
             | inr plain ↦
-                let opened : is_open (take i all) ≡ true = declared_open all i row after h e filled plain in
-                let none : kind_by_form (take i all) (form_of row) (take i all ++ row ∷ after) ≡ None = nine_none _ _ (sym (there_open (take i all) row after opened filled) ∙ line_none all i row after h e) in
-                fine_from (take i all) (form_of row) (take i all ++ row ∷ after) none
+                fine_from (take i all) (form_of row) (take i all ++ row ∷ after) (by_form_at all i row after h e filled plain)
           ]
     ]
 

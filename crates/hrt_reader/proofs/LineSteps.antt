@@ -12,11 +12,11 @@ use Rattle.hrt_reader.specs.declared.stages.Step.{Step}
 use Rattle.hrt_reader.specs.declared.stages.Step.TheVariants.{Next, Refused}
 use Rattle.hrt_text.specs.Text.{colon, opening, closing, word, Row}
 use Rattle.hrt_text.specs.Grammar.{Form, resident, hospital, finish, other, form_of, is_blank, is_header}
-use Rattle.hrt_reader.specs.Refusal.{ResidentLine, HospitalLine, resident_by, hospital_by, residents_of, hospitals_of, resident_names, hospital_names, all_blank, is_headed, is_finish, is_finished, is_open}
+use Rattle.hrt_reader.specs.Refusal.{ResidentLine, HospitalLine, resident_by, hospital_by, residents_of, hospitals_of, declared_residents, declared_hospitals, all_blank, is_headed, is_finish, is_finished, is_open}
 use Rattle.hrt_reader.specs.Kinds.{flaw_number}
 use Rattle.hrt_reader.specs.Stages.{kind_early, kind_there, kind_by_form, StepsTo, StepsBy}
 use Rattle.hrt_text.proofs.Among.{not_true}
-use Rattle.hrt_reader.proofs.RoundTrip.{headed_not_blank}
+use Rattle.hrt_reader.proofs.NoKind.{headed_not_blank}
 
 and_true : (b : Bool) → (b && true) ≡ b
 and_true true = refl
@@ -110,29 +110,29 @@ hospital_names_by (hospital name capacity items) = name ∷ []
 hospital_names_by finish = []
 hospital_names_by other = []
 
-one_resident : (row : Row) (form : Form) → form ≡ form_of row → resident_names (row ∷ []) ≡ names_by form
+one_resident : (row : Row) (form : Form) → form ≡ form_of row → declared_residents (row ∷ []) ≡ names_by form
 one_resident row (resident name items) e = rw (← e) refl
 one_resident row (hospital name capacity items) e = rw (← e) refl
 one_resident row finish e = rw (← e) refl
 one_resident row other e = rw (← e) refl
 
-one_hospital : (row : Row) (form : Form) → form ≡ form_of row → hospital_names (row ∷ []) ≡ hospital_names_by form
+one_hospital : (row : Row) (form : Form) → form ≡ form_of row → declared_hospitals (row ∷ []) ≡ hospital_names_by form
 one_hospital row (resident name items) e = rw (← e) refl
 one_hospital row (hospital name capacity items) e = rw (← e) refl
 one_hospital row finish e = rw (← e) refl
 one_hospital row other e = rw (← e) refl
 
-pub residents_push : (before : List Row) (row : Row) (form : Form) → form ≡ form_of row → resident_names (before ++ row ∷ []) ≡ resident_names before ++ names_by form
+pub residents_push : (before : List Row) (row : Row) (form : Form) → form ≡ form_of row → declared_residents (before ++ row ∷ []) ≡ declared_residents before ++ names_by form
 residents_push before row form e =
     ap (map (λ (l : ResidentLine). l.name)) (filter_map-append (λ (r : Row). resident_by (form_of r)) before (row ∷ []))
     ∙ map-append (λ (l : ResidentLine). l.name) (residents_of before) (residents_of (row ∷ []))
-    ∙ ap (λ (ns : List (List ℕ)). resident_names before ++ ns) (one_resident row form e)
+    ∙ ap (λ (ns : List (List ℕ)). declared_residents before ++ ns) (one_resident row form e)
 
-pub hospitals_push : (before : List Row) (row : Row) (form : Form) → form ≡ form_of row → hospital_names (before ++ row ∷ []) ≡ hospital_names before ++ hospital_names_by form
+pub hospitals_push : (before : List Row) (row : Row) (form : Form) → form ≡ form_of row → declared_hospitals (before ++ row ∷ []) ≡ declared_hospitals before ++ hospital_names_by form
 hospitals_push before row form e =
     ap (map (λ (l : HospitalLine). l.name)) (filter_map-append (λ (r : Row). hospital_by (form_of r)) before (row ∷ []))
     ∙ map-append (λ (l : HospitalLine). l.name) (hospitals_of before) (hospitals_of (row ∷ []))
-    ∙ ap (λ (ns : List (List ℕ)). hospital_names before ++ ns) (one_hospital row form e)
+    ∙ ap (λ (ns : List (List ℕ)). declared_hospitals before ++ ns) (one_hospital row form e)
 
 -- ---- steps
 
@@ -141,17 +141,17 @@ pub blank_early : (before : List Row) (after : List Row) → kind_early before [
 blank_early before after =
     early_none before [] after (and_left (all_blank before && false) (not (is_header [])) (and_right (all_blank before) false refl)) (and_right (is_headed before && is_finished before) false refl) (and_right (is_open before) false refl)
 
-pub blank_residents : (before : List Row) → resident_names (before ++ [] ∷ []) ≡ resident_names before
-blank_residents before = residents_push before [] other refl ∙ append-nil (resident_names before)
+pub blank_residents : (before : List Row) → declared_residents (before ++ [] ∷ []) ≡ declared_residents before
+blank_residents before = residents_push before [] other refl ∙ append-nil (declared_residents before)
 
-pub blank_hospitals : (before : List Row) → hospital_names (before ++ [] ∷ []) ≡ hospital_names before
-blank_hospitals before = hospitals_push before [] other refl ∙ append-nil (hospital_names before)
+pub blank_hospitals : (before : List Row) → declared_hospitals (before ++ [] ∷ []) ≡ declared_hospitals before
+blank_hospitals before = hospitals_push before [] other refl ∙ append-nil (declared_hospitals before)
 
 -- a line between the header and `end` that isn't `end`
 pub declared_step : (before : List Row) (row : Row) (after : List Row) (form : Form) (kind : Option Flaw) (is_last : Bool) (made : Step) (rs hs : List (List ℕ))
     → is_open before ≡ true → is_blank row ≡ false → form ≡ form_of row → is_finish form ≡ false → kind_by_form before form (before ++ row ∷ after) ≡ option_map flaw_number kind
     → is_last ≡ is_none (slice_get after 0) → StepsBy kind is_last made
-    → (kind ≡ None → (resident_names before ++ names_by form ≡ rs) × (hospital_names before ++ hospital_names_by form ≡ hs))
+    → (kind ≡ None → (declared_residents before ++ names_by form ≡ rs) × (declared_hospitals before ++ hospital_names_by form ≡ hs))
     → StepsTo before row after rs hs made
 declared_step before row after form None is_last made rs hs h filled e goes_on kinds last by names =
     let n = names refl in
@@ -197,12 +197,12 @@ header_form (word a ∷ word b ∷ []) h =
     let is : a ≡ codes "hrt" = (bytes_eq-Decides a (codes "hrt")).0 t.0 in
     rw is refl
 
-pub start_blank : (before after : List Row) (rs hs : List (List ℕ)) → all_blank before ≡ true → resident_names before ≡ rs → hospital_names before ≡ hs → StepsTo before [] after rs hs (Next Start)
+pub start_blank : (before after : List Row) (rs hs : List (List ℕ)) → all_blank before ≡ true → declared_residents before ≡ rs → declared_hospitals before ≡ hs → StepsTo before [] after rs hs (Next Start)
 start_blank before after rs hs h r k =
     (blank_early before after, blank_push before [] ∙ and_true (all_blank before) ∙ h, blank_residents before ∙ r, blank_hospitals before ∙ k)
 
 pub start_header : (before : List Row) (row : Row) (after : List Row) (rs hs : List (List ℕ)) → all_blank before ≡ true → is_blank row ≡ false → is_header row ≡ true
-    → resident_names before ≡ rs → hospital_names before ≡ hs → StepsTo before row after rs hs (Next Open)
+    → declared_residents before ≡ rs → declared_hospitals before ≡ hs → StepsTo before row after rs hs (Next Open)
 start_header before row after rs hs h filled header r k =
     let form : other ≡ form_of row = sym (header_form row header) in
     let unheaded : is_headed before ≡ false = blank_not_headed before h in
@@ -214,8 +214,8 @@ start_header before row after rs hs h filled header r k =
     let unfinished : is_finished (before ++ row ∷ []) ≡ false = finished_push before row ∙ or_from (is_finished before) (is_finish (form_of row)) (blank_not_finished before h) (ap is_finish (sym form)) in (
       early,
       and_from (is_headed (before ++ row ∷ [])) (not (is_finished (before ++ row ∷ []))) headed (not_from_false _ unfinished),
-      residents_push before row other form ∙ append-nil (resident_names before) ∙ r,
-      hospitals_push before row other form ∙ append-nil (hospital_names before) ∙ k,
+      residents_push before row other form ∙ append-nil (declared_residents before) ∙ r,
+      hospitals_push before row other form ∙ append-nil (declared_hospitals before) ∙ k,
     )
 
 pub start_other : (before : List Row) (row : Row) (after : List Row) → all_blank before ≡ true → is_blank row ≡ false → is_header row ≡ false → kind_there before row after ≡ Some 1
@@ -224,7 +224,7 @@ start_other before row after h filled header = rw (h, filled, header) refl
 
 -- ---- behind the end
 
-pub ended_blank : (before after : List Row) (rs hs : List (List ℕ)) → is_headed before ≡ true → is_finished before ≡ true → resident_names before ≡ rs → hospital_names before ≡ hs → StepsTo before [] after rs hs (Next Ended)
+pub ended_blank : (before after : List Row) (rs hs : List (List ℕ)) → is_headed before ≡ true → is_finished before ≡ true → declared_residents before ≡ rs → declared_hospitals before ≡ hs → StepsTo before [] after rs hs (Next Ended)
 ended_blank before after rs hs h f r k =
     (blank_early before after, (headed_push before [] h, finished_push before [] ∙ or_left (is_finished before) false f), blank_residents before ∙ r, blank_hospitals before ∙ k)
 
@@ -237,19 +237,19 @@ ended_other before row after h f filled =
 
 -- ---- between them
 
-pub open_blank : (before after : List Row) (rs hs : List (List ℕ)) → is_open before ≡ true → resident_names before ≡ rs → hospital_names before ≡ hs → StepsTo before [] after rs hs (Next Open)
+pub open_blank : (before after : List Row) (rs hs : List (List ℕ)) → is_open before ≡ true → declared_residents before ≡ rs → declared_hospitals before ≡ hs → StepsTo before [] after rs hs (Next Open)
 open_blank before after rs hs h r k =
     (blank_early before after, open_push before [] h refl, blank_residents before ∙ r, blank_hospitals before ∙ k)
 
 pub open_finish : (before : List Row) (row : Row) (after : List Row) (rs hs : List (List ℕ)) → is_open before ≡ true → is_blank row ≡ false → finish ≡ form_of row
-    → resident_names before ≡ rs → hospital_names before ≡ hs → StepsTo before row after rs hs (Next Ended)
+    → declared_residents before ≡ rs → declared_hospitals before ≡ hs → StepsTo before row after rs hs (Next Ended)
 open_finish before row after rs hs h filled form r k =
     let t = and_parts (is_headed before) (not (is_finished before)) h in
     let early : kind_early before row after ≡ None = early_open before row after h filled ∙ ap (λ (f : Form). kind_by_form before f (before ++ row ∷ after)) (sym form) in (
       early,
       (headed_push before row t.0, finished_push before row ∙ or_right (is_finished before) (is_finish (form_of row)) (ap is_finish (sym form))),
-      residents_push before row finish form ∙ append-nil (resident_names before) ∙ r,
-      hospitals_push before row finish form ∙ append-nil (hospital_names before) ∙ k,
+      residents_push before row finish form ∙ append-nil (declared_residents before) ∙ r,
+      hospitals_push before row finish form ∙ append-nil (declared_hospitals before) ∙ k,
     )
 
 pub wrong_line : (before : List Row) (row : Row) (after : List Row) → is_open before ≡ true → is_blank row ≡ false → other ≡ form_of row → kind_there before row after ≡ Some 2

@@ -1,18 +1,17 @@
 -- Names and their numbers: each is found from the other, where the names are distinct.
-use Rattle.std.proofs.Common.{◌≡◌, ℕ, zero, suc, ◌<◌, Bool, true, false, not, eqb, List, [], ◌∷◌, length, map, Option, refl, sym, ap, ◌∙◌, arith}
-use Rattle.std.specs.Prelude.{bytes_eq, unwrap_or}
+use Rattle.std.proofs.Common.{◌≡◌, ℕ, zero, suc, ◌<◌, Bool, true, false, not, eqb, List, [], ◌∷◌, length, map, refl, sym, ap, ◌∙◌, arith}
+use Rattle.std.specs.Prelude.{bytes_eq}
 use Rattle.std.specs.List.{list_all, concat}
 use Rattle.std.proofs.lemmas.Bool.{and_parts, and_from, or_parts, or_right, ltb-true}
 use Rattle.std.proofs.lemmas.Bool.Decides.{Decides-eqb, same_from_decides}
 use Rattle.std.proofs.lemmas.Slice.Eq.{bytes_eq-Decides}
 use Rattle.std.proofs.lemmas.List.Folds.{list_all-append}
 use Rattle.rank_tables.specs.Names.{is_among, are_apart}
-use Rattle.hrt_reader.specs.Refusal.{number_in, groups_in}
+use Rattle.hrt_reader.specs.Accepted.{number_in}
 use Rattle.hrt_reader.specs.Spelling.{name_at}
 use Rattle.rank_tables.specs.Numbers.{is_in, is_distinct}
-use Rattle.rank_tables.specs.WellFormed.{is_group}
 use Rattle.hrt_text.proofs.Among.{not_true, bytes_eq-same, bytes_eq-turned}
-use Rattle.hrt_reader.proofs.SpelledItems.{below, items_tokens, groups_items}
+use Rattle.hrt_reader.proofs.SpelledItems.{below}
 
 not_among : (name : List ℕ) (names : List (List ℕ)) (x : ℕ) → is_among name names ≡ false → x < length names → bytes_eq name (name_at names x) ≡ false
 not_among name [] x h lt = absurd (omega arith)
@@ -84,12 +83,8 @@ numbers_names names (x ∷ g) h e =
     let t = and_parts (below names x) (list_all (below names) g) e in
     ap (λ (y : ℕ). y ∷ map (number_in names) (map (name_at names) g)) (number_name names x h (ltb-true _ _ t.0)) ∙ ap (λ (l : List ℕ). x ∷ l) (numbers_names names g h t.1)
 
-groups_names : (names : List (List ℕ)) (groups : List (List ℕ)) → are_apart names ≡ true → list_all (below names) (concat groups) ≡ true → map (map (number_in names)) (map (map (name_at names)) groups) ≡ groups
+pub groups_names : (names : List (List ℕ)) (groups : List (List ℕ)) → are_apart names ≡ true → list_all (below names) (concat groups) ≡ true → map (map (number_in names)) (map (map (name_at names)) groups) ≡ groups
 groups_names names [] h e = refl
 groups_names names (g ∷ groups) h e =
     let b = and_parts (list_all (below names) g) (list_all (below names) (concat groups)) (sym (list_all-append (below names) g (concat groups)) ∙ e) in
     ap (λ (l : List ℕ). l ∷ map (map (number_in names)) (map (map (name_at names)) groups)) (numbers_names names g h b.0) ∙ ap (λ (l : List (List ℕ)). g ∷ l) (groups_names names groups h b.1)
-
-pub groups_back : (names : List (List ℕ)) (groups : List (List ℕ)) → are_apart names ≡ true → list_all is_group groups ≡ true → list_all (below names) (concat groups) ≡ true → groups_in names (items_tokens names groups) ≡ groups
-groups_back names groups h some e =
-    ap (λ (o : Option (List (List (List ℕ)))). map (map (number_in names)) (unwrap_or o [])) (groups_items names groups some) ∙ groups_names names groups h e

@@ -9,7 +9,7 @@ use Rattle.hrt_text.specs.Text.{Row, parts, without_return, tokens, rows}
 use Rattle.hrt_text.specs.Grammar.{is_blank}
 use Rattle.hrt_reader.specs.Refusal.{all_blank, is_headed, is_finished, is_open, Refusal, kind_in, first_line, refusal_but_6}
 use Rattle.hrt_reader.specs.Stages.{kind_early, kind_there}
-use Rattle.hrt_reader.proofs.RoundTrip.{headed_not_blank}
+use Rattle.hrt_reader.proofs.NoKind.{headed_not_blank}
 
 abbrev pub at : ℕ → ℕ → Option Refusal
 at k n = Some (record { line = k; kind = n })

@@ -1,351 +1,205 @@
--- The canonical spelling of well-formed lists has no refusal, and spells these lists.
-use Rattle.std.proofs.Common.{◌≡◌, ℕ, zero, suc, ◌+◌, ◌≤◌, max, Bool, true, false, not, ◌&&◌, ◌||◌, cond, eqb, List, [], ◌∷◌, ◌++◌, length, map, take, drop, Option, Some, None, refl, sym, ap, subst, ◌∙◌, append_assoc, arith}
-use Rattle.std.specs.Prelude.{decimal, bytes_eq, find, slice_get, unwrap_or, option_map, is_none}
+-- The canonical spelling of well-formed lists spells these lists.
+use Rattle.std.proofs.Common.{◌≡◌, ℕ, true, ◌&&◌, List, [], ◌∷◌, ◌++◌, length, map, refl, sym, ap, ◌∙◌, append_assoc, arith}
+use Rattle.std.specs.Prelude.{decimal, filter_map, codes}
 use Rattle.std.specs.List.{list_all, concat, AllByRecursion}
-use Rattle.std.proofs.lemmas.Bool.{and_parts, and_from, and_left, and_right, or_parts, or_from, not_from_true, cond-false}
-use Rattle.std.proofs.lemmas.Bool.Decides.{nat_tests}
-use Rattle.std.proofs.lemmas.List.{append-nil, map-append, length-map, length-append}
-use Rattle.std.proofs.lemmas.List.Folds.{list_any-append}
-use Rattle.hrt_text.specs.Text.{Token, Row, rows}
+use Rattle.std.proofs.lemmas.Bool.{and_from}
+use Rattle.std.proofs.lemmas.List.{append-nil, map-append, length-map}
+use Rattle.std.proofs.lemmas.List.Elements.{filter_map-append}
+use Rattle.std.proofs.lemmas.List.Folds.{list_all-append}
+use Rattle.hrt_text.specs.Text.{Token, Row, colon, word}
+use Rattle.std.specs.Str.Parse.{digits_value}
+use Rattle.hrt_text.specs.Grammar.{is_capacity}
 use Rattle.rank_tables.specs.Instance.{Lists}
 use Rattle.rank_tables.specs.declared.draft.DraftResident.{DraftResident}
 use Rattle.rank_tables.specs.declared.draft.DraftHospital.{DraftHospital}
 use Rattle.rank_tables.specs.Names.{is_name, is_among, are_apart}
-use Rattle.hrt_text.specs.Grammar.{is_capacity, value_from, words, Form, resident, hospital, finish, form_of, is_blank, is_header}
-use Rattle.hrt_reader.specs.Refusal.{ResidentLine, HospitalLine, residents_of, hospitals_of, resident_names, hospital_names, all_blank, is_headed, is_finish, is_finished, is_open, stands_by_form, stands, has_kind, Refusal, kind_in, unknown_in, first_line, or_else, refusal, resident_in, hospital_in, lists_of_rows, Spells}
 use Rattle.rank_tables.specs.WellFormed.{names_of_residents, names_of_hospitals, IsWellFormed}
+use Rattle.hrt_reader.specs.Accepted.{Declaration, of_resident, of_hospital, Spells, filled, groups_by, hospital_beside, hospital_name, hospitals_in, is_lawful, is_list_of, line_of, lines_of, lists_declared, number_in, resident_beside, resident_name, residents_in}
 use Rattle.hrt_reader.specs.Spelling.{spelling}
 use Rattle.hrt_text.proofs.Words.{value_back, capacity_back}
-use Rattle.hrt_reader.proofs.SpelledItems.{items_tokens, words_items, groups_items}
-use Rattle.hrt_reader.proofs.Numbers.{names_distinct, names_known, names_are, groups_back}
-use Rattle.hrt_text.proofs.Among.{bytes_eq-turned, not_true}
-use Rattle.hrt_reader.proofs.SpelledRows.{IsGood, GoodResident, GoodHospital, residents_good, hospitals_good, header_row, finish_row, resident_row, hospital_row, spelled_rows, rows_spelled}
+use Rattle.hrt_reader.proofs.Numbers.{groups_names, names_distinct, names_known}
+use Rattle.hrt_reader.proofs.SpelledItems.{item_of, items_spelled, names_items, names_joined}
+use Rattle.hrt_reader.proofs.SpelledRows.{IsGood, GoodResident, GoodHospital, residents_good, hospitals_good, finish_row, header_row, resident_row, hospital_row, spelled_rows, rows_spelled}
 
--- ---- no kind anywhere is no refusal
+-- ---- lists as declarations
 
-find_none : (p : ℕ → Bool) → ((n : ℕ) → p n ≡ false) → (xs : List ℕ) → find p xs ≡ None
-find_none p h [] = refl
-find_none p h (x ∷ xs) = rw (h x) (find_none p h xs)
+abbrev declared_resident : List (List ℕ) → DraftResident → Declaration
+declared_resident hospitals r = of_resident r.name (map (item_of hospitals) r.groups)
 
-no_line : (f : ℕ → Option ℕ) → ((k : ℕ) → f k ≡ None) → (k count : ℕ) → first_line f k count ≡ None
-no_line f h k zero = refl
-no_line f h k (suc count) = rw (h k) (no_line f h (k + 1) count)
+abbrev declared_hospital : List (List ℕ) → DraftHospital → Declaration
+declared_hospital residents h = of_hospital h.name (decimal h.capacity) (map (item_of residents) h.groups)
 
-pub accepted_from : (rows : List Row) → ((k n : ℕ) → has_kind rows k n ≡ false) → refusal rows ≡ None
-accepted_from rows h =
-    let a : first_line (kind_in rows) 1 (max 1 (length rows)) ≡ None = no_line (kind_in rows) (λ (k : ℕ). find_none (has_kind rows k) (h k) (1 ∷ 2 ∷ 3 ∷ 4 ∷ 5 ∷ 7 ∷ 8 ∷ 9 ∷ 10 ∷ 11 ∷ 12 ∷ [])) 1 (max 1 (length rows)) in
-    let b : first_line (unknown_in rows) 1 (length rows) ≡ None = no_line (unknown_in rows) (λ (k : ℕ). cond-false (has_kind rows k 6) (Some 6) None (h k 6)) 1 (length rows) in
-    ap (λ (o : Option Refusal). or_else o (first_line (unknown_in rows) 1 (length rows))) a ∙ b
+abbrev declarations_of : Lists → List Declaration
+declarations_of lists = map (declared_resident (names_of_hospitals lists)) lists.residents ++ map (declared_hospital (names_of_residents lists)) lists.hospitals
 
--- no kind stands in the lines that follow these
-abbrev pub NoneFrom : List Row → List Row → Type 0
-NoneFrom before [] = Unit {0}
-NoneFrom before (row ∷ after) = ((n : ℕ) → stands n before row after ≡ false) × NoneFrom (before ++ row ∷ []) after
+-- ---- their lines
 
-none_at : (before rest : List Row) → NoneFrom before rest → (i n : ℕ) → unwrap_or (option_map (λ row. stands n (before ++ take i rest) row (drop (suc i) rest)) (slice_get rest i)) false ≡ false
-none_at before [] h i n = refl
-none_at before (row ∷ rest) h zero n = subst (λ (b : List Row). stands n b row rest ≡ false) (sym (append-nil before)) (h.0 n)
-none_at before (row ∷ rest) h (suc i) n =
-    subst (λ (b : List Row). unwrap_or (option_map (λ (r : Row). stands n b r (drop (suc i) rest)) (slice_get rest i)) false ≡ false)
-    (append_assoc before (row ∷ []) (take i rest)) (none_at (before ++ row ∷ []) rest h.1 i n)
+residents_filled : (names : List (List ℕ)) (rs : List DraftResident) (rest : List Row) → filled (map (resident_row names) rs ++ rest) ≡ map (resident_row names) rs ++ filled rest
+residents_filled names [] rest = refl
+residents_filled names (r ∷ rs) rest = ap (λ (l : List Row). resident_row names r ∷ l) (residents_filled names rs rest)
 
-pub no_kind : (rows : List Row) → all_blank rows ≡ false → NoneFrom [] rows → (k n : ℕ) → has_kind rows k n ≡ false
-no_kind rows some h zero n = refl
-no_kind rows some h (suc i) n = cond-false (all_blank rows) (eqb i 0 && eqb n 1) _ some ∙ none_at [] rows h i n
+hospitals_filled : (names : List (List ℕ)) (hs : List DraftHospital) (rest : List Row) → filled (map (hospital_row names) hs ++ rest) ≡ map (hospital_row names) hs ++ filled rest
+hospitals_filled names [] rest = refl
+hospitals_filled names (h ∷ hs) rest = ap (λ (l : List Row). hospital_row names h ∷ l) (hospitals_filled names hs rest)
 
--- ---- a line after the header and before the end
+resident_lines : (names : List (List ℕ)) (rs : List DraftResident) → AllByRecursion (GoodResident names) rs → map (resident_row names) rs ≡ map line_of (map (declared_resident names) rs)
+resident_lines names [] good = refl
+resident_lines names (r ∷ rs) good =
+    ap (λ (ts : List Token). (word (codes "resident") ∷ word r.name ∷ colon ∷ ts) ∷ map (resident_row names) rs) (items_spelled names r.groups good.0.some)
+    ∙ ap (λ (l : List Row). line_of (declared_resident names r) ∷ l) (resident_lines names rs good.1)
 
-cond_same : {X : Type 0} (b : Bool) (x y z : X) → x ≡ z → y ≡ z → cond b x y ≡ z
-cond_same true x y z h k = h
-cond_same false x y z h k = k
+hospital_lines : (names : List (List ℕ)) (hs : List DraftHospital) → AllByRecursion (GoodHospital names) hs → map (hospital_row names) hs ≡ map line_of (map (declared_hospital names) hs)
+hospital_lines names [] good = refl
+hospital_lines names (h ∷ hs) good =
+    ap (λ (ts : List Token). (word (codes "hospital") ∷ word h.name ∷ word (decimal h.capacity) ∷ colon ∷ ts) ∷ map (hospital_row names) hs) (items_spelled names h.groups good.0.line.some)
+    ∙ ap (λ (l : List Row). line_of (declared_hospital names h) ∷ l) (hospital_lines names hs good.1)
 
-pub headed_not_blank : (before : List Row) → is_headed before ≡ true → all_blank before ≡ false
-headed_not_blank [] h = absurd cc
-headed_not_blank ([] ∷ before) h = headed_not_blank before h
-headed_not_blank ((t ∷ row) ∷ before) h = refl
+filled_lines : (lists : Lists) → IsWellFormed lists → filled (spelled_rows lists) ≡ lines_of (declarations_of lists)
+filled_lines lists wf =
+    let hs : List (List ℕ) = names_of_hospitals lists in
+    let rs : List (List ℕ) = names_of_residents lists in
+    let front : List Row = map (resident_row hs) lists.residents in
+    let later : List Row = map (hospital_row rs) lists.hospitals in
+    let ds : List Row = map line_of (map (declared_resident hs) lists.residents) in
+    let es : List Row = map line_of (map (declared_hospital rs) lists.hospitals) in
+    let same : front ++ (later ++ finish_row ∷ []) ≡ map line_of (declarations_of lists) ++ finish_row ∷ [] =
+    ap (λ (l : List Row). l ++ (later ++ finish_row ∷ [])) (resident_lines hs lists.residents (residents_good lists wf))
+    ∙ ap (λ (l : List Row). ds ++ (l ++ finish_row ∷ [])) (hospital_lines rs lists.hospitals (hospitals_good lists wf))
+    ∙ sym (append_assoc ds es (finish_row ∷ []))
+    ∙ ap (λ (l : List Row). l ++ finish_row ∷ []) (sym (map-append line_of (map (declared_resident hs) lists.residents) (map (declared_hospital rs) lists.hospitals))) in
+    ap (λ (l : List Row). header_row ∷ l)
+    (residents_filled hs lists.residents (later ++ finish_row ∷ []) ∙ ap (λ (l : List Row). front ++ l) (hospitals_filled rs lists.hospitals (finish_row ∷ [])) ∙ same)
 
-none_stands : (n : ℕ) (before : List Row) (row : Row) (after : List Row) → is_none (slice_get after 0) ≡ false → is_headed before ≡ true → is_finished before ≡ false
-    → stands_by_form n before (form_of row) (before ++ row ∷ after) ≡ false → stands n before row after ≡ false
-none_stands n before row after more headed unfinished h =
-    cond_same (eqb n 1) _ _ false (and_left (all_blank before && not (is_blank row)) (not (is_header row)) (and_left (all_blank before) (not (is_blank row)) (headed_not_blank before headed)))
-    (cond_same (eqb n 9) _ _ false (and_left (is_none (slice_get after 0)) (is_open (before ++ row ∷ [])) more)
-    (cond_same (eqb n 10) _ _ false (and_left (is_headed before && is_finished before) (not (is_blank row)) (and_right (is_headed before) (is_finished before) unfinished))
-    (and_right (is_open before && not (is_blank row)) _ h)))
+-- ---- what they declare
 
--- ---- declarations of spelled lines
+residents_name : (names : List (List ℕ)) (rs : List DraftResident) → residents_in (map (declared_resident names) rs) ≡ map (λ r. r.name) rs
+residents_name names [] = refl
+residents_name names (r ∷ rs) = ap (λ (l : List (List ℕ)). r.name ∷ l) (residents_name names rs)
 
-abbrev resident_line : List (List ℕ) → DraftResident → ResidentLine
-resident_line names r = record { name = r.name; items = items_tokens names r.groups }
+residents_none : (names : List (List ℕ)) (hs : List DraftHospital) → residents_in (map (declared_hospital names) hs) ≡ []
+residents_none names [] = refl
+residents_none names (h ∷ hs) = residents_none names hs
 
-abbrev hospital_line : List (List ℕ) → DraftHospital → HospitalLine
-hospital_line names h = record { name = h.name; capacity = decimal h.capacity; items = items_tokens names h.groups }
+hospitals_name : (names : List (List ℕ)) (hs : List DraftHospital) → hospitals_in (map (declared_hospital names) hs) ≡ map (λ h. h.name) hs
+hospitals_name names [] = refl
+hospitals_name names (h ∷ hs) = ap (λ (l : List (List ℕ)). h.name ∷ l) (hospitals_name names hs)
 
-residents_of-residents : (names : List (List ℕ)) (rs : List DraftResident) → residents_of (map (resident_row names) rs) ≡ map (resident_line names) rs
-residents_of-residents names [] = refl
-residents_of-residents names (r ∷ rs) = ap (λ (l : List ResidentLine). resident_line names r ∷ l) (residents_of-residents names rs)
+hospitals_none : (names : List (List ℕ)) (rs : List DraftResident) → hospitals_in (map (declared_resident names) rs) ≡ []
+hospitals_none names [] = refl
+hospitals_none names (r ∷ rs) = hospitals_none names rs
 
-hospitals_of-hospitals : (names : List (List ℕ)) (hs : List DraftHospital) → hospitals_of (map (hospital_row names) hs) ≡ map (hospital_line names) hs
-hospitals_of-hospitals names [] = refl
-hospitals_of-hospitals names (h ∷ hs) = ap (λ (l : List HospitalLine). hospital_line names h ∷ l) (hospitals_of-hospitals names hs)
+residents_same : (lists : Lists) → residents_in (declarations_of lists) ≡ names_of_residents lists
+residents_same lists =
+    let hs : List (List ℕ) = names_of_hospitals lists in
+    let rs : List (List ℕ) = names_of_residents lists in
+    filter_map-append resident_name (map (declared_resident hs) lists.residents) (map (declared_hospital rs) lists.hospitals)
+    ∙ ap (λ (l : List (List ℕ)). residents_in (map (declared_resident hs) lists.residents) ++ l) (residents_none rs lists.hospitals)
+    ∙ append-nil (residents_in (map (declared_resident hs) lists.residents)) ∙ residents_name hs lists.residents
 
-finished-residents : (names : List (List ℕ)) (rs : List DraftResident) → is_finished (map (resident_row names) rs) ≡ false
-finished-residents names [] = refl
-finished-residents names (r ∷ rs) = finished-residents names rs
+hospitals_same : (lists : Lists) → hospitals_in (declarations_of lists) ≡ names_of_hospitals lists
+hospitals_same lists =
+    let hs : List (List ℕ) = names_of_hospitals lists in
+    let rs : List (List ℕ) = names_of_residents lists in
+    filter_map-append hospital_name (map (declared_resident hs) lists.residents) (map (declared_hospital rs) lists.hospitals)
+    ∙ ap (λ (l : List (List ℕ)). l ++ hospitals_in (map (declared_hospital rs) lists.hospitals)) (hospitals_none hs lists.residents)
+    ∙ hospitals_name rs lists.hospitals
 
-finished-hospitals : (names : List (List ℕ)) (hs : List DraftHospital) → is_finished (map (hospital_row names) hs) ≡ false
-finished-hospitals names [] = refl
-finished-hospitals names (h ∷ hs) = finished-hospitals names hs
+-- ---- they are lawful
 
-line_names : (names : List (List ℕ)) (rs : List DraftResident) → map (λ (l : ResidentLine). l.name) (map (resident_line names) rs) ≡ map (λ (r : DraftResident). r.name) rs
-line_names names [] = refl
-line_names names (r ∷ rs) = ap (λ (l : List (List ℕ)). r.name ∷ l) (line_names names rs)
+good_list : (names : List (List ℕ)) (name : List ℕ) (groups : List (List ℕ)) → IsGood names name groups → are_apart names ≡ true → is_list_of names (map (item_of names) groups) ≡ true
+good_list names name groups good once =
+    let same = names_joined names groups good.some in
+    and_from _ _ (ap (list_all (λ (w : List ℕ). is_among w names)) same ∙ names_known names (concat groups) good.within)
+    (ap are_apart same ∙ names_distinct names (concat groups) once good.within good.once)
 
-hospital_line_names : (names : List (List ℕ)) (hs : List DraftHospital) → map (λ (l : HospitalLine). l.name) (map (hospital_line names) hs) ≡ map (λ (h : DraftHospital). h.name) hs
-hospital_line_names names [] = refl
-hospital_line_names names (h ∷ hs) = ap (λ (l : List (List ℕ)). h.name ∷ l) (hospital_line_names names hs)
+lawful_residents : (others names : List (List ℕ)) (rs : List DraftResident) → AllByRecursion (GoodResident names) rs → are_apart names ≡ true → list_all (is_lawful others names) (map (declared_resident names) rs) ≡ true
+lawful_residents others names [] good once = refl
+lawful_residents others names (r ∷ rs) good once =
+    and_from (is_lawful others names (declared_resident names r)) (list_all (is_lawful others names) (map (declared_resident names) rs))
+    (and_from (is_name r.name) (is_list_of names (map (item_of names) r.groups)) good.0.named (good_list names r.name r.groups good.0 once)) (lawful_residents others names rs good.1 once)
 
--- ---- a name is not declared before its line
+lawful_hospitals : (names others : List (List ℕ)) (hs : List DraftHospital) → AllByRecursion (GoodHospital names) hs → are_apart names ≡ true → list_all (is_lawful names others) (map (declared_hospital names) hs) ≡ true
+lawful_hospitals names others [] good once = refl
+lawful_hospitals names others (h ∷ hs) good once =
+    and_from (is_lawful names others (declared_hospital names h)) (list_all (is_lawful names others) (map (declared_hospital names) hs))
+    (and_from (is_name h.name && is_capacity (decimal h.capacity)) (is_list_of names (map (item_of names) h.groups)) (and_from (is_name h.name) (is_capacity (decimal h.capacity)) good.0.line.named (capacity_back h.capacity good.0.posts))
+    (good_list names h.name h.groups good.0.line once)) (lawful_hospitals names others hs good.1 once)
 
-among_mid : (x n : List ℕ) (xs ys : List (List ℕ)) → is_among x (xs ++ n ∷ ys) ≡ false → bytes_eq x n ≡ false
-among_mid x n [] ys h = (or_parts (bytes_eq x n) (is_among x ys) h).0
-among_mid x n (m ∷ xs) ys h = among_mid x n xs ys (or_parts (bytes_eq x m) (is_among x (xs ++ n ∷ ys)) h).1
+lawful_lists : (lists : Lists) → IsWellFormed lists → list_all (is_lawful (names_of_residents lists) (names_of_hospitals lists)) (declarations_of lists) ≡ true
+lawful_lists lists wf =
+    let hs : List (List ℕ) = names_of_hospitals lists in
+    let rs : List (List ℕ) = names_of_residents lists in
+    list_all-append (is_lawful rs hs) (map (declared_resident hs) lists.residents) (map (declared_hospital rs) lists.hospitals)
+    ∙ and_from _ _ (lawful_residents rs hs lists.residents (residents_good lists wf) wf.hospitals_apart) (lawful_hospitals rs hs lists.hospitals (hospitals_good lists wf) wf.residents_apart)
 
-apart : (xs : List (List ℕ)) (n : List ℕ) (ys : List (List ℕ)) → are_apart (xs ++ n ∷ ys) ≡ true → is_among n xs ≡ false
-apart [] n ys h = refl
-apart (x ∷ xs) n ys h =
-    let t = and_parts (not (is_among x (xs ++ n ∷ ys))) (are_apart (xs ++ n ∷ ys)) h in
-    let new : is_among x (xs ++ n ∷ ys) ≡ false = not_true (is_among x (xs ++ n ∷ ys)) t.0 in
-    or_from (bytes_eq n x) (is_among n xs) (bytes_eq-turned x n (among_mid x n xs ys new)) (apart xs n ys t.1)
+-- ---- they are the lists
 
--- ---- the kinds of a line by its form, one after the other
+groups_said : (names : List (List ℕ)) (groups : List (List ℕ)) (name : List ℕ) → IsGood names name groups → are_apart names ≡ true → groups_by names (map (item_of names) groups) ≡ groups
+groups_said names groups name good once = ap (map (map (number_in names))) (names_items names groups good.some) ∙ groups_names names groups once good.within
 
-abbrev pub NoneByForm : List Row → Form → List Row → Type 0
-NoneByForm before form all = (n : ℕ) → stands_by_form n before form all ≡ false
+residents_said : (names : List (List ℕ)) (rs : List DraftResident) → AllByRecursion (GoodResident names) rs → are_apart names ≡ true → filter_map (resident_beside names) (map (declared_resident names) rs) ≡ rs
+residents_said names [] good once = refl
+residents_said names (r ∷ rs) good once =
+    let with_groups : List (List ℕ) → DraftResident = λ (g : List (List ℕ)). record { name = r.name; groups = g } in
+    ap (λ (g : List (List ℕ)). with_groups g ∷ filter_map (resident_beside names) (map (declared_resident names) rs)) (groups_said names r.groups r.name good.0 once)
+    ∙ ap (λ (l : List DraftResident). r ∷ l) (residents_said names rs good.1 once)
 
-good_name : (names : List (List ℕ)) (name : List ℕ) (groups : List (List ℕ)) → IsGood names name groups → list_all is_name names ≡ true → (is_name name && list_all is_name (words (items_tokens names groups))) ≡ true
-good_name names name groups good named =
-    and_from (is_name name) (list_all is_name (words (items_tokens names groups))) good.named
-    (ap (list_all is_name) (words_items names groups) ∙ names_are is_name names (concat groups) named good.within)
+hospitals_said : (names : List (List ℕ)) (hs : List DraftHospital) → AllByRecursion (GoodHospital names) hs → are_apart names ≡ true → filter_map (hospital_beside names) (map (declared_hospital names) hs) ≡ hs
+hospitals_said names [] good once = refl
+hospitals_said names (h ∷ hs) good once =
+    let with_groups : List (List ℕ) → DraftHospital = λ (g : List (List ℕ)). record { name = h.name; capacity = digits_value 10 (decimal h.capacity); groups = g } in
+    let with_posts : ℕ → DraftHospital = λ (c : ℕ). record { name = h.name; capacity = c; groups = h.groups } in
+    let later : List DraftHospital = filter_map (hospital_beside names) (map (declared_hospital names) hs) in
+    ap (λ (g : List (List ℕ)). with_groups g ∷ later) (groups_said names h.groups h.name good.0.line once)
+    ∙ ap (λ (c : ℕ). with_posts c ∷ later) (value_back h.capacity good.0.posts)
+    ∙ ap (λ (l : List DraftHospital). h ∷ l) (hospitals_said names hs good.1 once)
 
-good_distinct : (names : List (List ℕ)) (name : List ℕ) (groups : List (List ℕ)) → IsGood names name groups → are_apart names ≡ true → are_apart (words (items_tokens names groups)) ≡ true
-good_distinct names name groups good h = ap are_apart (words_items names groups) ∙ names_distinct names (concat groups) h good.within good.once
+no_residents : (names others : List (List ℕ)) (hs : List DraftHospital) → filter_map (resident_beside names) (map (declared_hospital others) hs) ≡ []
+no_residents names others [] = refl
+no_residents names others (h ∷ hs) = no_residents names others hs
 
-good_known : (names : List (List ℕ)) (name : List ℕ) (groups : List (List ℕ)) → IsGood names name groups → list_all (λ w. is_among w names) (words (items_tokens names groups)) ≡ true
-good_known names name groups good = ap (list_all (λ (w : List ℕ). is_among w names)) (words_items names groups) ∙ names_known names (concat groups) good.within
+no_hospitals : (names others : List (List ℕ)) (rs : List DraftResident) → filter_map (hospital_beside names) (map (declared_resident others) rs) ≡ []
+no_hospitals names others [] = refl
+no_hospitals names others (r ∷ rs) = no_hospitals names others rs
 
-resident_none : (names : List (List ℕ)) (r : DraftResident) (before all : List Row) → GoodResident names r → list_all is_name names ≡ true → are_apart names ≡ true
-    → hospital_names all ≡ names → is_among r.name (resident_names before) ≡ false → eqb (length (residents_of before)) 20000 ≡ false
-    → NoneByForm before (resident r.name (items_tokens names r.groups)) all
-resident_none names r before all good named distinct known new few n =
-    let items : List Token = items_tokens names r.groups in
-    cond_same (eqb n 2) _ _ false refl
-    (cond_same (eqb n 3) _ _ false (not_from_true (is_name r.name && list_all is_name (words items)) (good_name names r.name r.groups good named))
-    (cond_same (eqb n 4) _ _ false refl
-    (cond_same (eqb n 5) _ _ false new
-    (cond_same (eqb n 6) _ _ false (not_from_true _ (ap (λ (ns : List (List ℕ)). list_all (λ (w : List ℕ). is_among w ns) (words items)) known ∙ good_known names r.name r.groups good))
-    (cond_same (eqb n 7) _ _ false (not_from_true (are_apart (words items)) (good_distinct names r.name r.groups good distinct))
-    (cond_same (eqb n 8) _ _ false (ap is_none (groups_items names r.groups good.some))
-    (cond_same (eqb n 11) _ _ false few
-    (cond_same (eqb n 12) _ _ false refl refl))))))))
+abbrev both : List DraftResident → List DraftHospital → Lists
+both residents hospitals = record { residents = residents; hospitals = hospitals }
 
-hospital_none : (names : List (List ℕ)) (x : DraftHospital) (before all : List Row) → GoodHospital names x → list_all is_name names ≡ true → are_apart names ≡ true
-    → resident_names all ≡ names → is_among x.name (hospital_names before) ≡ false → eqb (length (hospitals_of before)) 20000 ≡ false
-    → NoneByForm before (hospital x.name (decimal x.capacity) (items_tokens names x.groups)) all
-hospital_none names x before all good named distinct known new few n =
-    let items : List Token = items_tokens names x.groups in
-    cond_same (eqb n 2) _ _ false refl
-    (cond_same (eqb n 3) _ _ false (not_from_true (is_name x.name && list_all is_name (words items)) (good_name names x.name x.groups good.line named))
-    (cond_same (eqb n 4) _ _ false (not_from_true (is_capacity (decimal x.capacity)) (capacity_back x.capacity good.posts))
-    (cond_same (eqb n 5) _ _ false new
-    (cond_same (eqb n 6) _ _ false (not_from_true _ (ap (λ (ns : List (List ℕ)). list_all (λ (w : List ℕ). is_among w ns) (words items)) known ∙ good_known names x.name x.groups good.line))
-    (cond_same (eqb n 7) _ _ false (not_from_true (are_apart (words items)) (good_distinct names x.name x.groups good.line distinct))
-    (cond_same (eqb n 8) _ _ false (ap is_none (groups_items names x.groups good.line.some))
-    (cond_same (eqb n 11) _ _ false refl
-    (cond_same (eqb n 12) _ _ false few refl))))))))
-
-finish_none : (before all : List Row) → NoneByForm before finish all
-finish_none before all n =
-    cond_same (eqb n 2) _ _ false refl (cond_same (eqb n 3) _ _ false refl (cond_same (eqb n 4) _ _ false refl (cond_same (eqb n 5) _ _ false refl
-    (cond_same (eqb n 6) _ _ false refl (cond_same (eqb n 7) _ _ false refl (cond_same (eqb n 8) _ _ false refl (cond_same (eqb n 11) _ _ false refl (cond_same (eqb n 12) _ _ false refl refl))))))))
-
--- ---- the header, and the end
-
-header_none : (after : List Row) (n : ℕ) → is_none (slice_get after 0) ≡ false → stands n [] header_row after ≡ false
-header_none after n more = cond_same (eqb n 1) _ _ false refl (cond_same (eqb n 9) _ _ false (and_left (is_none (slice_get after 0)) (is_open (header_row ∷ [])) more) (cond_same (eqb n 10) _ _ false refl refl))
-
-end_none : (before : List Row) → is_headed before ≡ true → is_finished before ≡ false → (n : ℕ) → stands n before finish_row [] ≡ false
-end_none before headed unfinished n =
-    let ended : is_finished (before ++ finish_row ∷ []) ≡ true = list_any-append (λ (row : Row). is_finish (form_of row)) before (finish_row ∷ []) ∙ ap (λ (b : Bool). b || true) unfinished in
-    cond_same (eqb n 1) _ _ false (and_left (all_blank before && not false) (not (is_header finish_row)) (and_left (all_blank before) (not false) (headed_not_blank before headed)))
-    (cond_same (eqb n 9) _ _ false (and_right (is_headed (before ++ finish_row ∷ [])) (not (is_finished (before ++ finish_row ∷ []))) (not_from_true _ ended))
-    (cond_same (eqb n 10) _ _ false (and_left (is_headed before && is_finished before) (not false) (and_right (is_headed before) (is_finished before) unfinished))
-    (and_right (is_open before && not false) _ (finish_none before (before ++ finish_row ∷ []) n))))
-
--- ---- the block of residents
-
-few_from : (m n : ℕ) → m + suc n ≤ 20000 → eqb m 20000 ≡ false
-few_from m n h = grind (arith, nat_tests)
-
-more-residents : (names : List (List ℕ)) (rs : List DraftResident) (rest : List Row) → is_none (slice_get rest 0) ≡ false → is_none (slice_get (map (resident_row names) rs ++ rest) 0) ≡ false
-more-residents names [] rest h = h
-more-residents names (r ∷ rs) rest h = refl
-
-more-hospitals : (names : List (List ℕ)) (hs : List DraftHospital) (rest : List Row) → is_none (slice_get rest 0) ≡ false → is_none (slice_get (map (hospital_row names) hs ++ rest) 0) ≡ false
-more-hospitals names [] rest h = h
-more-hospitals names (x ∷ hs) rest h = refl
-
-hospitals_over : (names : List (List ℕ)) (rs : List DraftResident) (rest : List Row) → hospitals_of (map (resident_row names) rs ++ rest) ≡ hospitals_of rest
-hospitals_over names [] rest = refl
-hospitals_over names (r ∷ rs) rest = hospitals_over names rs rest
-
-residents_over : (names : List (List ℕ)) (hs : List DraftHospital) (rest : List Row) → residents_of (map (hospital_row names) hs ++ rest) ≡ residents_of rest
-residents_over names [] rest = refl
-residents_over names (h ∷ hs) rest = residents_over names hs rest
-
-residents_first : (names : List (List ℕ)) (rs : List DraftResident) (rest : List Row) → residents_of (map (resident_row names) rs ++ rest) ≡ map (resident_line names) rs ++ residents_of rest
-residents_first names [] rest = refl
-residents_first names (r ∷ rs) rest = ap (λ (l : List ResidentLine). resident_line names r ∷ l) (residents_first names rs rest)
-
-hospitals_first : (names : List (List ℕ)) (hs : List DraftHospital) (rest : List Row) → hospitals_of (map (hospital_row names) hs ++ rest) ≡ map (hospital_line names) hs ++ hospitals_of rest
-hospitals_first names [] rest = refl
-hospitals_first names (h ∷ hs) rest = ap (λ (l : List HospitalLine). hospital_line names h ∷ l) (hospitals_first names hs rest)
-
-unfinished_over : (names : List (List ℕ)) (rs : List DraftResident) (rest : List Row) → is_finished (map (resident_row names) rs ++ rest) ≡ is_finished rest
-unfinished_over names [] rest = refl
-unfinished_over names (r ∷ rs) rest = unfinished_over names rs rest
-
-abbrev resident_name : DraftResident → List ℕ
-resident_name r = r.name
-
-abbrev hospital_name : DraftHospital → List ℕ
-hospital_name h = h.name
-
-residents_fine : (names : List (List ℕ)) (done todo : List DraftResident) (rest : List Row) → AllByRecursion (GoodResident names) todo → list_all is_name names ≡ true → are_apart names ≡ true
-    → are_apart (map resident_name (done ++ todo)) ≡ true → length (done ++ todo) ≤ 20000 → hospital_names rest ≡ names → is_none (slice_get rest 0) ≡ false
-    → NoneFrom (header_row ∷ map (resident_row names) (done ++ todo)) rest
-    → NoneFrom (header_row ∷ map (resident_row names) done) (map (resident_row names) todo ++ rest)
-residents_fine names done [] rest good named distinct others few known more after =
-    subst (λ (rs : List DraftResident). NoneFrom (header_row ∷ map (resident_row names) rs) rest) (append-nil done) after
-residents_fine names done (r ∷ todo) rest good named distinct others few known more after =
-    let before : List Row = header_row ∷ map (resident_row names) done in
-    let behind : List Row = map (resident_row names) todo ++ rest in
-    let declared : residents_of before ≡ map (resident_line names) done = residents_of-residents names done in
-    let new : is_among r.name (resident_names before) ≡ false =
-    ap (λ (ls : List ResidentLine). is_among r.name (map (λ (l : ResidentLine). l.name) ls)) declared ∙ ap (is_among r.name) (line_names names done)
-    ∙ apart (map resident_name done) r.name (map resident_name todo) (ap are_apart (sym (map-append resident_name done (r ∷ todo))) ∙ others) in
-    let room : eqb (length (residents_of before)) 20000 ≡ false =
-    ap (λ (ls : List ResidentLine). eqb (length ls) 20000) declared ∙ ap (λ (k : ℕ). eqb k 20000) (length-map done (resident_line names))
-    ∙ few_from (length done) (length todo) (omega (arith, length-append done (r ∷ todo), few)) in
-    let all_known : hospital_names (before ++ resident_row names r ∷ behind) ≡ names =
-    ap (λ (ls : List HospitalLine). map (λ (l : HospitalLine). l.name) ls) (hospitals_over names done (resident_row names r ∷ behind) ∙ hospitals_over names todo rest) ∙ known in
-    let whole : (done ++ r ∷ []) ++ todo ≡ done ++ r ∷ todo = append_assoc done (r ∷ []) todo in
-    let step = residents_fine names (done ++ r ∷ []) todo rest good.1 named distinct
-    (subst (λ (rs : List DraftResident). are_apart (map resident_name rs) ≡ true) (sym whole) others)
-    (subst (λ (rs : List DraftResident). length rs ≤ 20000) (sym whole) few) known more
-    (subst (λ (rs : List DraftResident). NoneFrom (header_row ∷ map (resident_row names) rs) rest) (sym whole) after) in (
-      (λ (n : ℕ). none_stands n before (resident_row names r) behind (more-residents names todo rest more) refl (finished-residents names done)
-          (resident_none names r before (before ++ resident_row names r ∷ behind) good.0 named distinct all_known new room n)),
-      subst (λ (rows : List Row). NoneFrom (header_row ∷ rows) behind) (map-append (resident_row names) done (r ∷ [])) step,
-    )
-
--- ---- the block of hospitals
-
-hospitals_fine : (names others : List (List ℕ)) (rs : List DraftResident) (done todo : List DraftHospital) → AllByRecursion (GoodHospital names) todo → list_all is_name names ≡ true → are_apart names ≡ true
-    → are_apart (map hospital_name (done ++ todo)) ≡ true → length (done ++ todo) ≤ 20000 → map resident_name rs ≡ names
-    → NoneFrom (header_row ∷ (map (resident_row others) rs ++ map (hospital_row names) done)) (map (hospital_row names) todo ++ finish_row ∷ [])
-hospitals_fine names others rs done [] good named distinct apart_all few known =
-    let before : List Row = header_row ∷ (map (resident_row others) rs ++ map (hospital_row names) done) in
-    ((λ (n : ℕ). end_none before refl (unfinished_over others rs (map (hospital_row names) done) ∙ finished-hospitals names done) n), tt)
-hospitals_fine names others rs done (x ∷ todo) good named distinct apart_all few known =
-    let front : List Row = map (resident_row others) rs in
-    let before : List Row = header_row ∷ (front ++ map (hospital_row names) done) in
-    let behind : List Row = map (hospital_row names) todo ++ finish_row ∷ [] in
-    let declared : hospitals_of before ≡ map (hospital_line names) done = hospitals_over others rs (map (hospital_row names) done) ∙ hospitals_of-hospitals names done in
-    let new : is_among x.name (hospital_names before) ≡ false =
-    ap (λ (ls : List HospitalLine). is_among x.name (map (λ (l : HospitalLine). l.name) ls)) declared ∙ ap (is_among x.name) (hospital_line_names names done)
-    ∙ apart (map hospital_name done) x.name (map hospital_name todo) (ap are_apart (sym (map-append hospital_name done (x ∷ todo))) ∙ apart_all) in
-    let room : eqb (length (hospitals_of before)) 20000 ≡ false =
-    ap (λ (ls : List HospitalLine). eqb (length ls) 20000) declared ∙ ap (λ (k : ℕ). eqb k 20000) (length-map done (hospital_line names))
-    ∙ few_from (length done) (length todo) (omega (arith, length-append done (x ∷ todo), few)) in
-    let all : List Row = before ++ hospital_row names x ∷ behind in
-    let declared_all : residents_of all ≡ map (resident_line others) rs =
-    ap (λ (rows : List Row). residents_of rows) (append_assoc front (map (hospital_row names) done) (hospital_row names x ∷ behind))
-    ∙ residents_first others rs (map (hospital_row names) done ++ hospital_row names x ∷ behind)
-    ∙ ap (λ (ls : List ResidentLine). map (resident_line others) rs ++ ls) (residents_over names done (hospital_row names x ∷ behind) ∙ residents_over names todo (finish_row ∷ []))
-    ∙ append-nil (map (resident_line others) rs) in
-    let all_known : resident_names all ≡ names = ap (λ (ls : List ResidentLine). map (λ (l : ResidentLine). l.name) ls) declared_all ∙ line_names others rs ∙ known in
-    let whole : (done ++ x ∷ []) ++ todo ≡ done ++ x ∷ todo = append_assoc done (x ∷ []) todo in
-    let step = hospitals_fine names others rs (done ++ x ∷ []) todo good.1 named distinct
-    (subst (λ (hs : List DraftHospital). are_apart (map hospital_name hs) ≡ true) (sym whole) apart_all)
-    (subst (λ (hs : List DraftHospital). length hs ≤ 20000) (sym whole) few) known in (
-      (λ (n : ℕ). none_stands n before (hospital_row names x) behind (more-hospitals names todo (finish_row ∷ []) refl) refl (unfinished_over others rs (map (hospital_row names) done) ∙ finished-hospitals names done)
-          (hospital_none names x before all good.0 named distinct all_known new room n)),
-      subst (λ (rows : List Row). NoneFrom (header_row ∷ rows) behind)
-          (ap (λ (l : List Row). front ++ l) (map-append (hospital_row names) done (x ∷ [])) ∙ sym (append_assoc front (map (hospital_row names) done) (hospital_row names x ∷ []))) step,
-    )
+lists_said : (lists : Lists) → IsWellFormed lists → lists_declared (declarations_of lists) ≡ lists
+lists_said lists wf =
+    let hs : List (List ℕ) = names_of_hospitals lists in
+    let rs : List (List ℕ) = names_of_residents lists in
+    let front : List Declaration = map (declared_resident hs) lists.residents in
+    let later : List Declaration = map (declared_hospital rs) lists.hospitals in
+    let ds : List Declaration = declarations_of lists in
+    let r : filter_map (resident_beside (hospitals_in ds)) ds ≡ lists.residents =
+    ap (λ (names : List (List ℕ)). filter_map (resident_beside names) ds) (hospitals_same lists) ∙ filter_map-append (resident_beside hs) front later
+    ∙ ap (λ (l : List DraftResident). filter_map (resident_beside hs) front ++ l) (no_residents hs rs lists.hospitals) ∙ append-nil (filter_map (resident_beside hs) front)
+    ∙ residents_said hs lists.residents (residents_good lists wf) wf.hospitals_apart in
+    let h : filter_map (hospital_beside (residents_in ds)) ds ≡ lists.hospitals =
+    ap (λ (names : List (List ℕ)). filter_map (hospital_beside names) ds) (residents_same lists) ∙ filter_map-append (hospital_beside rs) front later
+    ∙ ap (λ (l : List DraftHospital). l ++ filter_map (hospital_beside rs) later) (no_hospitals rs hs lists.residents)
+    ∙ hospitals_said rs lists.hospitals (hospitals_good lists wf) wf.residents_apart in
+    ap (λ (l : List DraftResident). both l (filter_map (hospital_beside (residents_in ds)) ds)) r ∙ ap (both lists.residents) h
 
 -- ---- the law
 
-accepted_spelling : (lists : Lists) → IsWellFormed lists → refusal (spelled_rows lists) ≡ None
-accepted_spelling lists wf =
-    let hs : List (List ℕ) = names_of_hospitals lists in
-    let rs : List (List ℕ) = names_of_residents lists in
-    let tail : List Row = map (hospital_row rs) lists.hospitals ++ finish_row ∷ [] in
-    let more : is_none (slice_get tail 0) ≡ false = more-hospitals rs lists.hospitals (finish_row ∷ []) refl in
-    let known : hospital_names tail ≡ hs =
-    ap (λ (ls : List HospitalLine). map (λ (l : HospitalLine). l.name) ls) (hospitals_first rs lists.hospitals (finish_row ∷ []) ∙ append-nil (map (hospital_line rs) lists.hospitals)) ∙ hospital_line_names rs lists.hospitals in
-    let last = hospitals_fine rs hs lists.residents [] lists.hospitals (hospitals_good lists wf) wf.resident_names wf.residents_apart wf.hospitals_apart wf.few_hospitals refl in
-    let last' : NoneFrom (header_row ∷ map (resident_row hs) lists.residents) tail =
-    subst (λ (l : List Row). NoneFrom (header_row ∷ l) tail) (append-nil (map (resident_row hs) lists.residents)) last in
-    let first = residents_fine hs [] lists.residents tail (residents_good lists wf) wf.hospital_names wf.hospitals_apart wf.residents_apart wf.few_residents known more last' in
-    accepted_from (spelled_rows lists) (no_kind (spelled_rows lists) refl
-    ((λ (n : ℕ). header_none (map (resident_row hs) lists.residents ++ tail) n (more-residents hs lists.residents tail more)), first))
-
-said_resident : (names : List (List ℕ)) (r : DraftResident) → are_apart names ≡ true → GoodResident names r → resident_in names (resident_line names r) ≡ r
-said_resident names r h good =
-    let with_groups : List (List ℕ) → DraftResident = λ (g : List (List ℕ)). record { name = r.name; groups = g } in
-    ap with_groups (groups_back names r.groups h good.some good.within)
-
-said_hospital : (names : List (List ℕ)) (x : DraftHospital) → are_apart names ≡ true → GoodHospital names x → hospital_in names (hospital_line names x) ≡ x
-said_hospital names x h good =
-    let with_groups : List (List ℕ) → DraftHospital = λ (g : List (List ℕ)). record { name = x.name; capacity = value_from 0 (decimal x.capacity); groups = g } in
-    let with_posts : ℕ → DraftHospital = λ (c : ℕ). record { name = x.name; capacity = c; groups = x.groups } in
-    ap with_groups (groups_back names x.groups h good.line.some good.line.within) ∙ ap with_posts (value_back x.capacity good.posts)
-
-said_residents : (names : List (List ℕ)) (rs : List DraftResident) → are_apart names ≡ true → AllByRecursion (GoodResident names) rs → map (resident_in names) (map (resident_line names) rs) ≡ rs
-said_residents names [] h good = refl
-said_residents names (r ∷ rs) h good =
-    ap (λ (s : DraftResident). s ∷ map (resident_in names) (map (resident_line names) rs)) (said_resident names r h good.0) ∙ ap (λ (l : List DraftResident). r ∷ l) (said_residents names rs h good.1)
-
-said_hospitals : (names : List (List ℕ)) (hs : List DraftHospital) → are_apart names ≡ true → AllByRecursion (GoodHospital names) hs → map (hospital_in names) (map (hospital_line names) hs) ≡ hs
-said_hospitals names [] h good = refl
-said_hospitals names (x ∷ hs) h good =
-    ap (λ (s : DraftHospital). s ∷ map (hospital_in names) (map (hospital_line names) hs)) (said_hospital names x h good.0) ∙ ap (λ (l : List DraftHospital). x ∷ l) (said_hospitals names hs h good.1)
-
-abbrev both : List DraftResident → List DraftHospital → Lists
-both rs hs = record { residents = rs; hospitals = hs }
-
-says_spelling : (lists : Lists) → IsWellFormed lists → lists_of_rows (spelled_rows lists) ≡ lists
-says_spelling lists wf =
-    let hs : List (List ℕ) = names_of_hospitals lists in
-    let rs : List (List ℕ) = names_of_residents lists in
-    let all : List Row = spelled_rows lists in
-    let r-is : residents_of all ≡ map (resident_line hs) lists.residents =
-    residents_first hs lists.residents (map (hospital_row rs) lists.hospitals ++ finish_row ∷ [])
-    ∙ ap (λ (l : List ResidentLine). map (resident_line hs) lists.residents ++ l) (residents_over rs lists.hospitals (finish_row ∷ [])) ∙ append-nil (map (resident_line hs) lists.residents) in
-    let h-is : hospitals_of all ≡ map (hospital_line rs) lists.hospitals =
-    hospitals_over hs lists.residents (map (hospital_row rs) lists.hospitals ++ finish_row ∷ [])
-    ∙ hospitals_first rs lists.hospitals (finish_row ∷ []) ∙ append-nil (map (hospital_line rs) lists.hospitals) in
-    let r-names : resident_names all ≡ rs = ap (λ (ls : List ResidentLine). map (λ (l : ResidentLine). l.name) ls) r-is ∙ line_names hs lists.residents in
-    let h-names : hospital_names all ≡ hs = ap (λ (ls : List HospitalLine). map (λ (l : HospitalLine). l.name) ls) h-is ∙ hospital_line_names rs lists.hospitals in
-    let r-said : map (resident_in (hospital_names all)) (residents_of all) ≡ lists.residents =
-    ap (λ (names : List (List ℕ)). map (resident_in names) (residents_of all)) h-names ∙ ap (map (resident_in hs)) r-is ∙ said_residents hs lists.residents wf.hospitals_apart (residents_good lists wf) in
-    let h-said : map (hospital_in (resident_names all)) (hospitals_of all) ≡ lists.hospitals =
-    ap (λ (names : List (List ℕ)). map (hospital_in names) (hospitals_of all)) r-names ∙ ap (map (hospital_in rs)) h-is ∙ said_hospitals rs lists.hospitals wf.residents_apart (hospitals_good lists wf) in
-    ap (λ (l : List DraftResident). both l (map (hospital_in (resident_names all)) (hospitals_of all))) r-said ∙ ap (both lists.residents) h-said
-
 pub spelled_back : (lists : Lists) → IsWellFormed lists → Spells (spelling lists) lists
-spelled_back lists wf = record {
-  accepted = ap refusal (rows_spelled lists wf) ∙ accepted_spelling lists wf;
-  says = ap lists_of_rows (rows_spelled lists wf) ∙ says_spelling lists wf;
-}
+spelled_back lists wf =
+    let rn : residents_in (declarations_of lists) ≡ names_of_residents lists = residents_same lists in
+    let hn : hospitals_in (declarations_of lists) ≡ names_of_hospitals lists = hospitals_same lists in
+    let rc : length (names_of_residents lists) ≡ length lists.residents = length-map lists.residents (λ (r : DraftResident). r.name) in
+    let hc : length (names_of_hospitals lists) ≡ length lists.hospitals = length-map lists.hospitals (λ (h : DraftHospital). h.name) in
+    record {
+      declarations = declarations_of lists;
+      spelled = ap filled (rows_spelled lists wf) ∙ filled_lines lists wf;
+      make_instance = record {
+        lawful = ap (λ (names : List (List ℕ)). list_all (is_lawful names (hospitals_in (declarations_of lists))) (declarations_of lists)) rn
+            ∙ ap (λ (names : List (List ℕ)). list_all (is_lawful (names_of_residents lists) names) (declarations_of lists)) hn ∙ lawful_lists lists wf;
+        residents_apart = ap are_apart rn ∙ wf.residents_apart;
+        hospitals_apart = ap are_apart hn ∙ wf.hospitals_apart;
+        few_residents = omega (arith, ap length rn, rc, wf.few_residents);
+        few_hospitals = omega (arith, ap length hn, hc, wf.few_hospitals);
+      };
+      lists_are = lists_said lists wf;
+    }

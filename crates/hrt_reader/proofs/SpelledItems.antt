@@ -1,13 +1,12 @@
--- The items of a spelled line: their tokens, their words and their groups.
-use Rattle.std.proofs.Common.{◌≡◌, ℕ, zero, suc, ◌<◌, Bool, true, ltb, List, [], ◌∷◌, ◌++◌, length, map, Option, Some, None, refl, sym, ap, ◌∙◌, append_assoc, arith}
-use Rattle.std.specs.Prelude.{flat_map, option_map}
+-- The items of a spelled line: their tokens, and the items that they are.
+use Rattle.std.proofs.Common.{◌≡◌, ℕ, zero, suc, ◌<◌, Bool, true, ltb, List, [], ◌∷◌, ◌++◌, length, map, refl, sym, ap, ◌∙◌, append_assoc, arith}
+use Rattle.std.specs.Prelude.{flat_map}
 use Rattle.std.specs.List.{list_all, join_with_byte, concat, AllByRecursion}
 use Rattle.std.proofs.lemmas.Bool.{and_parts, ltb-true}
-use Rattle.std.proofs.lemmas.List.{append-nil, map-append}
-use Rattle.std.proofs.lemmas.List.Elements.{filter_map-append}
+use Rattle.std.proofs.lemmas.List.{map-append}
 use Rattle.std.proofs.lemmas.List.Folds.{list_all-append}
 use Rattle.hrt_text.specs.Text.{Token, opening, closing, word, tokens}
-use Rattle.hrt_text.specs.Grammar.{word_of, words, Group, groups_from, groups_of}
+use Rattle.hrt_reader.specs.Accepted.{Item, single, tie, item_names, item_tokens}
 use Rattle.hrt_reader.specs.Spelling.{name_at, group_text, items_text}
 use Rattle.rank_tables.specs.WellFormed.{is_group}
 use Rattle.hrt_text.proofs.Words.{IsWord, Ends, tokens_word, tokens_joined}
@@ -56,46 +55,29 @@ tokens_items names (g ∷ groups) h some e =
     tokens_group names g (items_text names groups) h s.0 b.0 (items_end names groups s.1)
     ∙ ap (λ (ts : List Token). group_tokens names g ++ ts) (tokens_items names groups h s.1 b.1)
 
--- words
+-- ---- as items
 
-words_words : (ns : List (List ℕ)) → words (map word ns) ≡ ns
-words_words [] = refl
-words_words (n ∷ ns) = ap (λ (l : List (List ℕ)). n ∷ l) (words_words ns)
+-- the item of a group
+abbrev pub item_of : List (List ℕ) → List ℕ → Item
+item_of names [] = single []
+item_of names (x ∷ []) = single (name_at names x)
+item_of names (x ∷ y ∷ group) = tie (name_at names x) (map (name_at names) (y ∷ group))
 
-words_group : (names : List (List ℕ)) (g : List ℕ) → words (group_tokens names g) ≡ map (name_at names) g
-words_group names [] = refl
-words_group names (k ∷ []) = refl
-words_group names (k ∷ l ∷ g) =
-    let ns : List (List ℕ) = map (name_at names) (k ∷ l ∷ g) in
-    filter_map-append word_of (map word ns) (closing ∷ []) ∙ append-nil (words (map word ns)) ∙ words_words ns
+pub items_spelled : (names : List (List ℕ)) (groups : List (List ℕ)) → list_all is_group groups ≡ true → items_tokens names groups ≡ flat_map item_tokens (map (item_of names) groups)
+items_spelled names [] some = refl
+items_spelled names ([] ∷ groups) some = absurd cc
+items_spelled names ((x ∷ []) ∷ groups) some = ap (λ (ts : List Token). word (name_at names x) ∷ ts) (items_spelled names groups some)
+items_spelled names ((x ∷ y ∷ g) ∷ groups) some = ap (λ (ts : List Token). group_tokens names (x ∷ y ∷ g) ++ ts) (items_spelled names groups some)
 
-pub words_items : (names : List (List ℕ)) (groups : List (List ℕ)) → words (items_tokens names groups) ≡ map (name_at names) (concat groups)
-words_items names [] = refl
-words_items names (g ∷ groups) =
-    filter_map-append word_of (group_tokens names g) (items_tokens names groups)
-    ∙ ap (λ (l : List (List ℕ)). l ++ words (items_tokens names groups)) (words_group names g)
-    ∙ ap (λ (l : List (List ℕ)). map (name_at names) g ++ l) (words_items names groups)
-    ∙ sym (map-append (name_at names) g (concat groups))
+pub names_items : (names : List (List ℕ)) (groups : List (List ℕ)) → list_all is_group groups ≡ true → map item_names (map (item_of names) groups) ≡ map (map (name_at names)) groups
+names_items names [] some = refl
+names_items names ([] ∷ groups) some = absurd cc
+names_items names ((x ∷ []) ∷ groups) some = ap (λ (l : List (List (List ℕ))). (name_at names x ∷ []) ∷ l) (names_items names groups some)
+names_items names ((x ∷ y ∷ g) ∷ groups) some = ap (λ (l : List (List (List ℕ))). map (name_at names) (x ∷ y ∷ g) ∷ l) (names_items names groups some)
 
--- groups
-
-abbrev with_group : Group → Option (List Group) → Option (List Group)
-with_group g o = option_map (λ groups. g ∷ groups) o
-
-open_group : (first : List ℕ) (front ns : Group) (ts : List Token) → groups_from (Some (first ∷ front)) (map word ns ++ closing ∷ ts) ≡ with_group (first ∷ (front ++ ns)) (groups_from None ts)
-open_group first front [] ts = ap (λ (l : Group). with_group (first ∷ l) (groups_from None ts)) (sym (append-nil front))
-open_group first front (n ∷ ns) ts =
-    open_group first (front ++ n ∷ []) ns ts ∙ ap (λ (l : Group). with_group (first ∷ l) (groups_from None ts)) (append_assoc front (n ∷ []) ns)
-
-groups_group : (names : List (List ℕ)) (g : List ℕ) (ts : List Token) → is_group g ≡ true → groups_from None (group_tokens names g ++ ts) ≡ with_group (map (name_at names) g) (groups_from None ts)
-groups_group names [] ts some = absurd cc
-groups_group names (k ∷ []) ts some = refl
-groups_group names (k ∷ l ∷ g) ts some =
-    let ns : Group = map (name_at names) (l ∷ g) in
-    ap (groups_from (Some (name_at names k ∷ []))) (append_assoc (map word ns) (closing ∷ []) ts) ∙ open_group (name_at names k) [] ns ts
-
-pub groups_items : (names : List (List ℕ)) (groups : List (List ℕ)) → list_all is_group groups ≡ true → groups_of (items_tokens names groups) ≡ Some (map (map (name_at names)) groups)
-groups_items names [] some = refl
-groups_items names (g ∷ groups) some =
-    let s = and_parts (is_group g) (list_all is_group groups) some in
-    groups_group names g (items_tokens names groups) s.0 ∙ ap (with_group (map (name_at names) g)) (groups_items names groups s.1)
+pub names_joined : (names : List (List ℕ)) (groups : List (List ℕ)) → list_all is_group groups ≡ true → flat_map item_names (map (item_of names) groups) ≡ map (name_at names) (concat groups)
+names_joined names [] some = refl
+names_joined names ([] ∷ groups) some = absurd cc
+names_joined names ((x ∷ []) ∷ groups) some = ap (λ (l : List (List ℕ)). name_at names x ∷ l) (names_joined names groups some)
+names_joined names ((x ∷ y ∷ g) ∷ groups) some =
+    ap (λ (l : List (List ℕ)). map (name_at names) (x ∷ y ∷ g) ++ l) (names_joined names groups some) ∙ sym (map-append (name_at names) (x ∷ y ∷ g) (concat groups))

@@ -1,12 +1,11 @@
 -- The lines and the tokens of a canonical spelling.
-use Rattle.std.proofs.Common.{◌≡◌, ℕ, ◌≤◌, true, false, not, ◌&&◌, eqb, leb, List, [], ◌∷◌, ◌++◌, length, map, refl, sym, ap, subst, ◌∙◌, append_assoc, arith}
-use Rattle.std.specs.Prelude.{flat_map, codes, decimal}
+use Rattle.std.proofs.Common.{◌≡◌, ℕ, ◌≤◌, true, ◌&&◌, leb, List, [], ◌∷◌, ◌++◌, length, map, refl, sym, ap, subst, ◌∙◌}
+use Rattle.std.specs.Prelude.{codes, decimal}
 use Rattle.std.specs.List.{list_all, join_with_byte, concat, AllByRecursion}
-use Rattle.std.proofs.lemmas.Bool.{and_parts, and_from, ltb-true, leb-true}
-use Rattle.std.proofs.lemmas.Bool.Decides.{nat_tests}
+use Rattle.std.proofs.lemmas.Bool.{and_parts, ltb-true, leb-true}
 use Rattle.std.proofs.lemmas.List.{map-append, length-map}
 use Rattle.std.proofs.lemmas.List.Folds.{list_all-append}
-use Rattle.hrt_text.specs.Text.{without_return, lines, Token, colon, word, tokens, Row, rows}
+use Rattle.hrt_text.specs.Text.{Token, colon, word, tokens, Row, rows}
 use Rattle.rank_tables.specs.Instance.{Lists}
 use Rattle.rank_tables.specs.declared.draft.DraftResident.{DraftResident}
 use Rattle.rank_tables.specs.declared.draft.DraftHospital.{DraftHospital}
@@ -15,7 +14,7 @@ use Rattle.rank_tables.specs.WellFormed.{most_capacity}
 use Rattle.hrt_reader.specs.Spelling.{name_at, group_text, items_text, resident_text, hospital_text, spelled_lines, spelling}
 use Rattle.rank_tables.specs.WellFormed.{names_of_residents, names_of_hospitals, is_group, is_list, IsWellFormed}
 use Rattle.rank_tables.specs.Numbers.{is_distinct}
-use Rattle.hrt_text.proofs.PlainLines.{IsPlain, ended_line, lines_back, plain_append}
+use Rattle.hrt_text.proofs.PlainLines.{IsPlain, lines_back, plain_append}
 use Rattle.hrt_text.proofs.Words.{IsWord, IsWord-from_name, IsWord-decimal, tokens_word}
 use Rattle.hrt_reader.proofs.SpelledItems.{below, word_at, items_tokens, tokens_items}
 

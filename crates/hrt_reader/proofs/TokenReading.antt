@@ -10,7 +10,8 @@ use Rattle.hrt_text.specs.declared.items.Place.TheVariants.{Outside, Opened, Ins
 use Rattle.hrt_text.specs.Text.{Token, colon, opening, closing, word}
 use Rattle.hrt_text.specs.Grammar.{Group, groups_from, groups_of, words}
 use Rattle.rank_tables.specs.Names.{is_among}
-use Rattle.hrt_reader.specs.Refusal.{number_in, groups_in}
+use Rattle.hrt_reader.specs.Accepted.{number_in}
+use Rattle.hrt_reader.specs.Refusal.{groups_in}
 use Rattle.hrt_reader.specs.Numbered.{next_place, with_number, after_token, is_known}
 
 abbrev pub reads : List (List ℕ) → List (List ℕ) → Place → List Token → List (List ℕ)

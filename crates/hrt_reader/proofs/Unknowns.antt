@@ -12,7 +12,7 @@ use Rattle.rank_tables.specs.declared.draft.DraftResident.{DraftResident}
 use Rattle.rank_tables.specs.declared.draft.DraftHospital.{DraftHospital}
 use Rattle.hrt_text.specs.Grammar.{form_of}
 use Rattle.hrt_text.specs.Views.{texts}
-use Rattle.hrt_reader.specs.Refusal.{ResidentLine, HospitalLine, resident_by, hospital_by, residents_of, hospitals_of, resident_names, hospital_names, resident_in, hospital_in, has_kind, Refusal, unknown_in, first_line, or_else, refusal, refusal_but_6}
+use Rattle.hrt_reader.specs.Refusal.{ResidentLine, HospitalLine, resident_by, hospital_by, residents_of, hospitals_of, declared_residents, declared_hospitals, resident_in, hospital_in, has_kind, Refusal, unknown_in, first_line, or_else, refusal, refusal_but_6}
 use Rattle.hrt_reader.proofs.Places.{at, no_line_before, no_line_at_all, take_next}
 
 abbrev pub AllKnown : List Row → ℕ → Type 0
@@ -45,11 +45,11 @@ length-kept : {X Y : Type 0} (h : X → Option Y) (xs : List X) → length (filt
 length-kept h [] = omega arith
 length-kept h (x ∷ xs) = omega (arith, length-cons (h x) (filter_map h xs), length-kept h xs)
 
-pub few_residents : (all : List Row) (keys : List (Bor (List ℕ))) → texts keys ≡ resident_names all → length keys ≤ length all
+pub few_residents : (all : List Row) (keys : List (Bor (List ℕ))) → texts keys ≡ declared_residents all → length keys ≤ length all
 few_residents all keys e =
     omega (arith, length-map keys (λ (k : Bor (List ℕ)). k.now), ap length e, length-map (residents_of all) (λ (l : ResidentLine). l.name), length-kept (λ (r : Row). resident_by (form_of r)) all)
 
-pub few_hospitals : (all : List Row) (keys : List (Bor (List ℕ))) → texts keys ≡ hospital_names all → length keys ≤ length all
+pub few_hospitals : (all : List Row) (keys : List (Bor (List ℕ))) → texts keys ≡ declared_hospitals all → length keys ≤ length all
 few_hospitals all keys e =
     omega (arith, length-map keys (λ (k : Bor (List ℕ)). k.now), ap length e, length-map (hospitals_of all) (λ (l : HospitalLine). l.name), length-kept (λ (r : Row). hospital_by (form_of r)) all)
 

@@ -8,7 +8,8 @@ use Rattle.std.proofs.lemmas.Slice.Eq.{bytes_eq-Decides}
 use Rattle.hrt_text.specs.Text.{Token, colon, opening, closing, word}
 use Rattle.hrt_text.specs.Grammar.{Group, groups_from, groups_of, words}
 use Rattle.rank_tables.specs.Names.{is_among, are_apart}
-use Rattle.hrt_reader.specs.Refusal.{number_in, groups_in}
+use Rattle.hrt_reader.specs.Accepted.{number_in}
+use Rattle.hrt_reader.specs.Refusal.{groups_in}
 use Rattle.rank_tables.specs.Numbers.{is_in, is_distinct}
 use Rattle.rank_tables.specs.WellFormed.{is_group, is_list}
 use Rattle.hrt_text.proofs.Among.{not_true}

@@ -3,7 +3,7 @@ use Rattle.std.specs.Prelude.{ℕ, Bool, true, List, [], ◌∷◌, ◌++◌}
 use Rattle.rank_tables.specs.Groups.{tied_on}
 use Rattle.hrt_text.specs.Text.{Token, colon, opening, closing, word}
 use Rattle.rank_tables.specs.Names.{is_among}
-use Rattle.hrt_reader.specs.Refusal.{number_in}
+use Rattle.hrt_reader.specs.Accepted.{number_in}
 use Rattle.hrt_text.specs.declared.items.Place.{Place}
 use Rattle.hrt_text.specs.declared.items.Place.TheVariants.{Outside, Opened, Inside}
 

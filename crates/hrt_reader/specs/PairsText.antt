@@ -7,7 +7,8 @@ use Rattle.rank_tables.specs.Instance.{Lists, pair_at, pair_no}
 use Rattle.rank_tables.specs.Names.{is_among}
 use Rattle.rank_tables.specs.Numbers.{is_in}
 use Rattle.rank_tables.specs.WellFormed.{names_of_residents, names_of_hospitals}
-use Rattle.hrt_reader.specs.Refusal.{Refusal, first_line, number_in}
+use Rattle.hrt_reader.specs.Accepted.{number_in}
+use Rattle.hrt_reader.specs.Refusal.{Refusal, first_line}
 use Rattle.hrt_reader.specs.Spelling.{name_at}
 
 -- ---- lines

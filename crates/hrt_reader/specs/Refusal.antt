@@ -3,15 +3,17 @@
 -- is none, 5 an earlier line declares the name on the same side, 6 a list names what no line declares, 7 a list has one name
 -- twice, 8 the items are no groups, 9 the text ends without `end`, 10 something stands after `end`, 11 and 12 one resident, or
 -- one hospital, more than there may be.
-use Rattle.std.specs.Prelude.{ℕ, zero, suc, ◌+◌, max, Bool, true, false, not, ◌&&◌, ◌==◌, if◌then◌else◌, List, [], ◌∷◌, ◌++◌, length, map, take, drop, filter_map, find, slice_get, Option, Some, None, is_none, unwrap_or, option_map, bytes_eq, ◌≡◌}
-use Rattle.std.specs.List.{list_any, list_all, position_or_len}
+use Rattle.std.specs.Prelude.{ℕ, zero, suc, ◌+◌, max, Bool, true, false, not, ◌&&◌, ◌==◌, if◌then◌else◌, List, [], ◌∷◌, ◌++◌, length, map, take, drop, filter_map, find, slice_get, Option, Some, None, is_none, unwrap_or, option_map, ◌≡◌}
+use Rattle.std.specs.List.{list_any, list_all}
 use Rattle.hrt_text.specs.Text.{Token, Row, rows}
 use Rattle.rank_tables.specs.Instance.{Lists}
 use Rattle.rank_tables.specs.declared.draft.DraftResident.{DraftResident}
 use Rattle.rank_tables.specs.declared.draft.DraftHospital.{DraftHospital}
 use Rattle.rank_tables.specs.Names.{is_name, is_among, are_apart}
 use Rattle.rank_tables.specs.WellFormed.{most_residents, most_hospitals}
-use Rattle.hrt_text.specs.Grammar.{is_capacity, value_from, words, groups_of, Form, resident, hospital, finish, other, form_of, is_blank, is_header}
+use Rattle.hrt_reader.specs.Accepted.{number_in}
+use Rattle.std.specs.Str.Parse.{digits_value}
+use Rattle.hrt_text.specs.Grammar.{is_capacity, words, groups_of, Form, resident, hospital, finish, other, form_of, is_blank, is_header}
 
 -- what a list of lines declares
 
@@ -49,12 +51,12 @@ abbrev pub hospitals_of : List Row → List HospitalLine
 hospitals_of rows = filter_map (λ row. hospital_by (form_of row)) rows
 
 -- the names of the residents that lines declare, in their order
-abbrev pub resident_names : List Row → List (List ℕ)
-resident_names rows = map (λ line. line.name) (residents_of rows)
+abbrev pub declared_residents : List Row → List (List ℕ)
+declared_residents rows = map (λ line. line.name) (residents_of rows)
 
 -- the names of the hospitals that lines declare, in their order
-abbrev pub hospital_names : List Row → List (List ℕ)
-hospital_names rows = map (λ line. line.name) (hospitals_of rows)
+abbrev pub declared_hospitals : List Row → List (List ℕ)
+declared_hospitals rows = map (λ line. line.name) (hospitals_of rows)
 
 -- what stands before a line
 
@@ -107,15 +109,15 @@ bad_capacity other = false
 
 -- 5: an earlier line declares the name on the same side
 abbrev pub declared_twice : List Row → Form → Bool
-declared_twice before (resident name items) = is_among name (resident_names before)
-declared_twice before (hospital name capacity items) = is_among name (hospital_names before)
+declared_twice before (resident name items) = is_among name (declared_residents before)
+declared_twice before (hospital name capacity items) = is_among name (declared_hospitals before)
 declared_twice before finish = false
 declared_twice before other = false
 
 -- 6: its list names what no line declares
 abbrev pub unknown_name : List Row → Form → Bool
-unknown_name all (resident name items) = not (list_all (λ w. is_among w (hospital_names all)) (words items))
-unknown_name all (hospital name capacity items) = not (list_all (λ w. is_among w (resident_names all)) (words items))
+unknown_name all (resident name items) = not (list_all (λ w. is_among w (declared_hospitals all)) (words items))
+unknown_name all (hospital name capacity items) = not (list_all (λ w. is_among w (declared_residents all)) (words items))
 unknown_name all finish = false
 unknown_name all other = false
 
@@ -214,10 +216,6 @@ refusal rows = or_else (refusal_but_6 rows) (first_line (unknown_in rows) 1 (len
 
 -- the lists
 
--- the place of a name among names, or their count
-abbrev pub number_in : List (List ℕ) → List ℕ → ℕ
-number_in names name = position_or_len (bytes_eq name) names
-
 -- the groups of items by the numbers of their names
 abbrev pub groups_in : List (List ℕ) → List Token → List (List ℕ)
 groups_in names items = map (map (number_in names)) (unwrap_or (groups_of items) [])
@@ -228,16 +226,16 @@ resident_in hospitals line = record { name = line.name; groups = groups_in hospi
 
 -- a hospital as it is declared, with the numbers of the residents in its list
 abbrev pub hospital_in : List (List ℕ) → HospitalLine → DraftHospital
-hospital_in residents line = record { name = line.name; capacity = value_from 0 line.capacity; groups = groups_in residents line.items }
+hospital_in residents line = record { name = line.name; capacity = digits_value 10 line.capacity; groups = groups_in residents line.items }
 
 -- names are numbered by the order of their declarations
 abbrev pub lists_of_rows : List Row → Lists
 lists_of_rows rows = record {
-  residents = map (resident_in (hospital_names rows)) (residents_of rows);
-  hospitals = map (hospital_in (resident_names rows)) (hospitals_of rows);
+  residents = map (resident_in (declared_hospitals rows)) (residents_of rows);
+  hospitals = map (hospital_in (declared_residents rows)) (hospitals_of rows);
 }
 
--- the bytes are a spelling of these lists
-pub record Spells (bytes : List ℕ) (lists : Lists) : Type 0 where
+-- no kind stands in the bytes, and these are the lists that their lines declare
+pub record ReadsAs (bytes : List ℕ) (lists : Lists) : Type 0 where
   pub accepted : refusal (rows bytes) ≡ None
   pub says : lists_of_rows (rows bytes) ≡ lists

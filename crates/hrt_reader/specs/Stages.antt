@@ -6,7 +6,7 @@ use Rattle.hrt_reader.specs.declared.stages.Stage.TheVariants as stage
 use Rattle.hrt_reader.specs.declared.stages.Step.{Step}
 use Rattle.hrt_reader.specs.declared.stages.Step.TheVariants as step
 use Rattle.hrt_text.specs.Text.{Row}
-use Rattle.hrt_reader.specs.Refusal.{all_blank, is_headed, is_finished, is_open, stands, stands_by_form, resident_names, hospital_names}
+use Rattle.hrt_reader.specs.Refusal.{all_blank, is_headed, is_finished, is_open, stands, stands_by_form, declared_residents, declared_hospitals}
 use Rattle.hrt_text.specs.Grammar.{Form, is_blank}
 use Rattle.hrt_reader.specs.Kinds.{flaw_number}
 
@@ -32,7 +32,7 @@ kind_by_form before form all = find (λ n. stands_by_form n before form all) (2 
 abbrev pub StepsTo : List Row → Row → List Row → List (List ℕ) → List (List ℕ) → Step → Type 0
 StepsTo before row after residents hospitals (step.Next next) =
     (kind_early before row after ≡ None) × IsStage next (before ++ row ∷ [])
-    × (resident_names (before ++ row ∷ []) ≡ residents) × (hospital_names (before ++ row ∷ []) ≡ hospitals)
+    × (declared_residents (before ++ row ∷ []) ≡ residents) × (declared_hospitals (before ++ row ∷ []) ≡ hospitals)
 StepsTo before row after residents hospitals (step.Refused flaw) = (is_blank row ≡ false) × (kind_there before row after ≡ Some (flaw_number flaw))
 
 -- the line of a declaration with this flaw, if it has one: in the last line a missing end, 9, comes before what has a greater number

@@ -6,7 +6,7 @@ ghost use Rattle.hrt_text.specs.Text.{Row, tokens};
 ghost use Rattle.rank_tables.specs.Names.{is_name};
 ghost use Rattle.hrt_text.specs.Grammar.{words};
 ghost use Rattle.hrt_text.specs.Grammar.{resident as resident_form, hospital as hospital_form};
-ghost use Rattle.hrt_reader.specs.Refusal.{hospital_names, resident_names, stands_by_form};
+ghost use Rattle.hrt_reader.specs.Refusal.{declared_hospitals, declared_residents, stands_by_form};
 ghost use Rattle.hrt_text.specs.Views.{texts};
 ghost use Rattle.hrt_reader.specs.Kinds.{flaw_number};
 
@@ -32,7 +32,7 @@ pub fn resident_flaw<'a>(
     items: &'a [u8],
     residents: &mut IndexSet<&'a [u8]>,
 ) -> Result<Option<Flaw>, AllocError>
-    ensures least { IfOk result (λ flaw. (before all : List Row) → resident_names before ≡ texts residents.old.keys →
+    ensures least { IfOk result (λ flaw. (before all : List Row) → declared_residents before ≡ texts residents.old.keys →
         find (λ n. stands_by_form n before (resident_form name.entry.now (tokens items.entry.now)) all) (2 ∷ 3 ∷ 4 ∷ 5 ∷ 7 ∷ 8 ∷ 11 ∷ 12 ∷ []) ≡ option_map flaw_number flaw) }
     ensures added { IfOk result (λ flaw. IfNone flaw (texts residents.new.keys ≡ texts residents.old.keys ++ name.entry.now ∷ [])) }
 {
@@ -65,7 +65,7 @@ pub fn hospital_flaw<'a>(
     items: &'a [u8],
     hospitals: &mut IndexSet<&'a [u8]>,
 ) -> Result<Option<Flaw>, AllocError>
-    ensures least { IfOk result (λ flaw. (before all : List Row) → hospital_names before ≡ texts hospitals.old.keys →
+    ensures least { IfOk result (λ flaw. (before all : List Row) → declared_hospitals before ≡ texts hospitals.old.keys →
         find (λ n. stands_by_form n before (hospital_form name.entry.now capacity.entry.now (tokens items.entry.now)) all) (2 ∷ 3 ∷ 4 ∷ 5 ∷ 7 ∷ 8 ∷ 11 ∷ 12 ∷ []) ≡ option_map flaw_number flaw) }
     ensures added { IfOk result (λ flaw. IfNone flaw (texts hospitals.new.keys ≡ texts hospitals.old.keys ++ name.entry.now ∷ [])) }
 {

@@ -3,9 +3,10 @@
 ghost use Rattle.std.specs.Prelude.{◌≡◌, ◌<◌, ◌^◌, ◌++◌, ◌∷◌, [], false, true, is_none, length, map, not, IfOk, List};
 ghost use Rattle.std.specs.List.{list_all};
 ghost use Rattle.hrt_text.specs.Text.{Row, tokens};
-ghost use Rattle.hrt_text.specs.Grammar.{form_of, groups_of, is_capacity, value_from, words};
+ghost use Rattle.std.specs.Str.Parse.{digits_value};
+ghost use Rattle.hrt_text.specs.Grammar.{form_of, groups_of, is_capacity, words};
 ghost use Rattle.rank_tables.specs.Names.{is_among, is_name};
-ghost use Rattle.hrt_reader.specs.Refusal.{groups_in, hospital_in, hospital_names, hospitals_of, resident_in, resident_names, residents_of, unknown_name};
+ghost use Rattle.hrt_reader.specs.Refusal.{groups_in, hospital_in, declared_hospitals, hospitals_of, resident_in, declared_residents, residents_of, unknown_name};
 ghost use Rattle.hrt_reader.specs.Survey.{IsFine};
 ghost use Rattle.hrt_text.specs.Views.{texts};
 
@@ -54,7 +55,7 @@ fn add_hospital(
     requires posts { is_capacity capacity.now ≡ true }
     requires fit { is_none (groups_of (tokens items.now)) ≡ false }
     ensures known { IfOk result (λ known. known ≡ list_all (λ w. is_among w (texts names.now.keys)) (words (tokens items.now))) }
-    ensures added { IfOk result (λ known. known ≡ true → hospitals.new.items ≡ hospitals.old.items ++ record { name = name.now; capacity = value_from 0 capacity.now; groups = groups_in (texts names.now.keys) (tokens items.now) } ∷ []) }
+    ensures added { IfOk result (λ known. known ≡ true → hospitals.new.items ≡ hospitals.old.items ++ record { name = name.now; capacity = digits_value 10 capacity.now; groups = groups_in (texts names.now.keys) (tokens items.now) } ∷ []) }
     ensures kept { IfOk result (λ known. known ≡ false → hospitals.new.items ≡ hospitals.old.items) }
 {
     match numbered_groups(alloc, names, items)? {
@@ -86,7 +87,7 @@ pub fn add_line(
     requires few_residents { length names.now.residents.keys < 2 ^ 32 }
     requires few_hospitals { length names.now.hospitals.keys < 2 ^ 32 }
     requires fine { IsFine (form_of (tokens line.now)) }
-    ensures known { IfOk result (λ known. (all : List Row) → resident_names all ≡ texts names.now.residents.keys → hospital_names all ≡ texts names.now.hospitals.keys → unknown_name all (form_of (tokens line.now)) ≡ not known) }
+    ensures known { IfOk result (λ known. (all : List Row) → declared_residents all ≡ texts names.now.residents.keys → declared_hospitals all ≡ texts names.now.hospitals.keys → unknown_name all (form_of (tokens line.now)) ≡ not known) }
     ensures residents { IfOk result (λ known. known ≡ true → residents.new.items ≡ residents.old.items ++ map (resident_in (texts names.now.hospitals.keys)) (residents_of (tokens line.now ∷ []))) }
     ensures hospitals { IfOk result (λ known. known ≡ true → hospitals.new.items ≡ hospitals.old.items ++ map (hospital_in (texts names.now.residents.keys)) (hospitals_of (tokens line.now ∷ []))) }
 {

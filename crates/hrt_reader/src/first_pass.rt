@@ -2,7 +2,7 @@
 
 ghost use Rattle.std.specs.Prelude.{◌≡◌, ◌<◌, ◌^◌, None, length, IfOk, IfErr};
 ghost use Rattle.hrt_text.specs.Text.{rows};
-ghost use Rattle.hrt_reader.specs.Refusal.{hospital_names, refusal_but_6, resident_names};
+ghost use Rattle.hrt_reader.specs.Refusal.{declared_hospitals, refusal_but_6, declared_residents};
 ghost use Rattle.hrt_reader.specs.Survey.{IsRefusedBy};
 ghost use Rattle.hrt_text.specs.Views.{texts};
 
@@ -23,8 +23,8 @@ pub struct Names<'a> {
 pub fn survey<'a>(alloc: Global, text: &'a [u8]) -> Result<Names<'a>, ReadRefusal>
     requires { length (rows text.now) < 2 ^ 32 }
     ensures accepted { IfOk result (λ names. refusal_but_6 (rows text.entry.now) ≡ None) }
-    ensures residents { IfOk result (λ names. texts names.residents.keys ≡ resident_names (rows text.entry.now)) }
-    ensures hospitals { IfOk result (λ names. texts names.hospitals.keys ≡ hospital_names (rows text.entry.now)) }
+    ensures residents { IfOk result (λ names. texts names.residents.keys ≡ declared_residents (rows text.entry.now)) }
+    ensures hospitals { IfOk result (λ names. texts names.hospitals.keys ≡ declared_hospitals (rows text.entry.now)) }
     ensures refused { IfErr result (IsRefusedBy (refusal_but_6 (rows text.entry.now))) }
 {
     let mut residents = IndexSet::new(alloc);

@@ -19,7 +19,10 @@ mod stages;
 mod tests;
 mod writing;
 
-pub use law::{pairs_spelling_is_read_back, spelling_is_one_to_one, spelling_is_read_back};
+pub use law::{
+    accepted_where_unrefused, pairs_spelling_is_read_back, spelling_is_one_to_one,
+    spelling_is_read_back,
+};
 pub use pair_reading::read_pairs;
 pub use pair_refusals::{PairsKind, PairsRefusal};
 pub use pair_writing::write_pairs;

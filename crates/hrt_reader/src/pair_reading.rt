@@ -9,41 +9,30 @@ ghost use Rattle.rank_tables.specs.WellFormed.{IsWellFormed, names_of_hospitals,
 ghost use Rattle.hrt_reader.specs.Refusal.{Refusal};
 ghost use Rattle.hrt_reader.specs.PairsText.{SpellsPairs, pairs_refusal};
 ghost use Rattle.hrt_reader.specs.PairsAnswer.{ArePairsRefusedBy};
+ghost use Rattle.hrt_reader.specs.Written.{names_of};
 
 use crate::first_pass::Names;
 use crate::pair_lines::take_line;
 use crate::pair_refusals::PairsRefusal;
+use crate::pieces::{Side, count_of, name_of};
 use hrt_base::PairNo;
 use hrt_text::{declare, next_line};
 use indexmap::IndexSet;
 use rank_tables::Instance;
 use std::alloc::{AllocError, Global};
 
-// The names of the residents, by number.
-fn resident_names<'a>(
+// The names of a side, by number.
+fn index_names(
     alloc: Global,
-    instance: &'a Instance,
-) -> Result<IndexSet<&'a [u8]>, AllocError>
-    ensures names { IfOk result (λ names. texts names.keys ≡ names_of_residents instance.entry.now) }
+    instance: &Instance,
+    side: Side,
+) -> Result<IndexSet<&[u8]>, AllocError>
+    ensures names { IfOk result (λ names. texts names.keys ≡ names_of side instance.entry.now) }
     ensures well_formed { IsWellFormed instance.entry.now }
 {
     let mut names = IndexSet::new(alloc);
-    for r in 0..instance.residents() {
-        declare(&mut names, instance.resident_name(r).bytes())?;
-    }
-    Ok(names)
-}
-
-// The names of the hospitals, by number.
-fn hospital_names<'a>(
-    alloc: Global,
-    instance: &'a Instance,
-) -> Result<IndexSet<&'a [u8]>, AllocError>
-    ensures { IfOk result (λ names. texts names.keys ≡ names_of_hospitals instance.entry.now) }
-{
-    let mut names = IndexSet::new(alloc);
-    for h in 0..instance.hospitals() {
-        declare(&mut names, instance.hospital_name(h).bytes())?;
+    for number in 0..count_of(instance, side) {
+        declare(&mut names, name_of(instance, side, number))?;
     }
     Ok(names)
 }
@@ -90,8 +79,8 @@ pub fn read_pairs(alloc: Global, bytes: &[u8], inst: &Instance) -> Result<Vec<Pa
     ensures accepts { pairs_refusal inst.now (rows bytes.now) ≡ None → IfErr result (λ e. e ≡ PairsRefusal.NoMemory) }
     ensures refuses { (r : Refusal) → pairs_refusal inst.now (rows bytes.now) ≡ Some r → IfOk result (λ pairs. ⊥) }
 {
-    let residents = resident_names(alloc, inst)?;
-    let hospitals = hospital_names(alloc, inst)?;
+    let residents = index_names(alloc, inst, Side::Residents)?;
+    let hospitals = index_names(alloc, inst, Side::Hospitals)?;
     let names = Names {
         residents,
         hospitals,

@@ -2,6 +2,7 @@
 
 ghost use Rattle.std.specs.Prelude.{◌≡◌, ◌<◌, flat_map, length, OnOk, OnErr};
 ghost use Rattle.hrt_base.specs.Calls.{Sent, SentPart};
+ghost use Rattle.rank_tables.specs.WellFormed.{IsWellFormed};
 ghost use Rattle.hrt_reader.specs.Spelling.{name_at};
 ghost use Rattle.hrt_reader.specs.Written.{names_of};
 
@@ -25,6 +26,17 @@ pub fn write_pieces<H: Host>(host: &mut H, port: Port, pieces: &[&[u8]]) -> Resu
 pub enum Side {
     Residents,
     Hospitals,
+}
+
+/// How many names this side has.
+pub fn count_of(instance: &Instance, side: Side) -> u32
+    ensures count { result ≡ length (names_of side instance.now) }
+    ensures well_formed { IsWellFormed instance.now }
+{
+    match side {
+        Side::Residents => instance.residents(),
+        Side::Hospitals => instance.hospitals(),
+    }
 }
 
 /// The bytes of the name of number `number` on this side.

@@ -7,7 +7,8 @@ ghost use Rattle.rank_tables.specs.WellFormed.{most_pairs, most_terms};
 ghost use Rattle.hrt_reader.specs.Answer.{IsRefused};
 ghost use Rattle.hrt_reader.specs.Refusal.{Refusal, lists_of_rows};
 ghost use Rattle.hrt_text.specs.Text.{rows};
-ghost use Rattle.hrt_reader.specs.Refusal.{hospital_names, refusal, refusal_but_6, resident_names, Spells};
+ghost use Rattle.hrt_reader.specs.Refusal.{declared_hospitals, refusal, refusal_but_6, declared_residents, ReadsAs};
+ghost use Rattle.hrt_reader.specs.Accepted.{Spells};
 ghost use Rattle.rank_tables.specs.WellFormed.{IsWellFormed};
 ghost use Rattle.rank_tables.specs.Instance.{lists_of};
 ghost use Rattle.hrt_reader.specs.Survey.{IsRefusedBy};
@@ -24,9 +25,9 @@ use std::alloc::Global;
 fn resolve(alloc: Global, text: &[u8], names: &Names) -> Result<Draft, ReadRefusal>
     requires short { length (rows text.now) < 2 ^ 32 }
     requires accepted { refusal_but_6 (rows text.now) ≡ None }
-    requires residents { texts names.now.residents.keys ≡ resident_names (rows text.now) }
-    requires hospitals { texts names.now.hospitals.keys ≡ hospital_names (rows text.now) }
-    ensures spells { IfOk result (λ draft. Spells text.now (lists_of draft)) }
+    requires residents { texts names.now.residents.keys ≡ declared_residents (rows text.now) }
+    requires hospitals { texts names.now.hospitals.keys ≡ declared_hospitals (rows text.now) }
+    ensures reads { IfOk result (λ draft. ReadsAs text.now (lists_of draft)) }
     ensures well_formed { IfOk result (λ draft. IsWellFormed (lists_of draft)) }
     ensures refused { IfErr result (IsRefusedBy (refusal (rows text.now))) }
 {
@@ -54,7 +55,7 @@ fn resolve(alloc: Global, text: &[u8], names: &Names) -> Result<Draft, ReadRefus
 // The lists that the text spells, or its refusal.
 fn read_lists(alloc: Global, text: &[u8]) -> Result<Draft, ReadRefusal>
     requires { length (rows text.now) < 2 ^ 32 }
-    ensures spells { IfOk result (λ draft. Spells text.now (lists_of draft)) }
+    ensures reads { IfOk result (λ draft. ReadsAs text.now (lists_of draft)) }
     ensures well_formed { IfOk result (λ draft. IsWellFormed (lists_of draft)) }
     ensures refused { IfErr result (IsRefusedBy (refusal (rows text.now))) }
 {
@@ -63,6 +64,7 @@ fn read_lists(alloc: Global, text: &[u8]) -> Result<Draft, ReadRefusal>
 }
 
 /// Reads an instance in any spelling. The text has few enough line feeds for each line's number to fit.
+#[tactic(auto, using(crate::proofs::Declared::spells_from))]
 pub fn read_instance(alloc: Global, bytes: &[u8]) -> Result<Instance, ReadRefusal>
     requires { count_by (λ b. b == 10) bytes.now ≤ 4294967294 }
     ensures spells { IfOk result (λ instance. Spells bytes.now instance) }

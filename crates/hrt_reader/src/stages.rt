@@ -2,7 +2,7 @@
 
 ghost use Rattle.std.specs.Prelude.{◌≡◌, ◌&&◌, is_none, nat_lt, slice_get, if◌then◌else◌, IfOk, List, ℕ};
 ghost use Rattle.hrt_text.specs.Text.{Row, tokens};
-ghost use Rattle.hrt_reader.specs.Refusal.{hospital_names, resident_names};
+ghost use Rattle.hrt_reader.specs.Refusal.{declared_hospitals, declared_residents};
 ghost use Rattle.hrt_text.specs.Views.{texts};
 ghost use Rattle.hrt_reader.specs.Kinds.{flaw_number};
 ghost use Rattle.hrt_reader.specs.Stages.{IsStage, StepsBy, StepsTo};
@@ -49,7 +49,7 @@ fn step_by(flaw: Option<Flaw>, is_last: bool) -> Step
 }
 
 fn start_step(line: &[u8]) -> Step
-    ensures { (before after : List Row) (residents hospitals : List (List ℕ)) → IsStage Stage.Start before → resident_names before ≡ residents → hospital_names before ≡ hospitals → StepsTo before (tokens line.now) after residents hospitals result }
+    ensures { (before after : List Row) (residents hospitals : List (List ℕ)) → IsStage Stage.Start before → declared_residents before ≡ residents → declared_hospitals before ≡ hospitals → StepsTo before (tokens line.now) after residents hospitals result }
 {
     match next_token(line) {
         None => Step::Next(Stage::Start),
@@ -64,7 +64,7 @@ fn start_step(line: &[u8]) -> Step
 }
 
 fn ended_step(line: &[u8]) -> Step
-    ensures { (before after : List Row) (residents hospitals : List (List ℕ)) → IsStage Stage.Ended before → resident_names before ≡ residents → hospital_names before ≡ hospitals → StepsTo before (tokens line.now) after residents hospitals result }
+    ensures { (before after : List Row) (residents hospitals : List (List ℕ)) → IsStage Stage.Ended before → declared_residents before ≡ residents → declared_hospitals before ≡ hospitals → StepsTo before (tokens line.now) after residents hospitals result }
 {
     match next_token(line) {
         None => Step::Next(Stage::Ended),
@@ -79,7 +79,7 @@ fn open_step<'a>(
     residents: &mut IndexSet<&'a [u8]>,
     hospitals: &mut IndexSet<&'a [u8]>,
 ) -> Result<Step, AllocError>
-    ensures { IfOk result (λ step. (before after : List Row) → IsStage Stage.Open before → resident_names before ≡ texts residents.old.keys → hospital_names before ≡ texts hospitals.old.keys → is_last ≡ is_none (slice_get after 0) →
+    ensures { IfOk result (λ step. (before after : List Row) → IsStage Stage.Open before → declared_residents before ≡ texts residents.old.keys → declared_hospitals before ≡ texts hospitals.old.keys → is_last ≡ is_none (slice_get after 0) →
         StepsTo before (tokens line.entry.now) after (texts residents.new.keys) (texts hospitals.new.keys) step) }
 {
     match form_of(line) {
@@ -112,7 +112,7 @@ pub fn line_step<'a>(
     residents: &mut IndexSet<&'a [u8]>,
     hospitals: &mut IndexSet<&'a [u8]>,
 ) -> Result<Step, AllocError>
-    ensures { IfOk result (λ step. (before after : List Row) → IsStage stage before → resident_names before ≡ texts residents.old.keys → hospital_names before ≡ texts hospitals.old.keys → is_last ≡ is_none (slice_get after 0) →
+    ensures { IfOk result (λ step. (before after : List Row) → IsStage stage before → declared_residents before ≡ texts residents.old.keys → declared_hospitals before ≡ texts hospitals.old.keys → is_last ≡ is_none (slice_get after 0) →
         StepsTo before (tokens line.entry.now) after (texts residents.new.keys) (texts hospitals.new.keys) step) }
 {
     match stage {

@@ -4,7 +4,7 @@ ghost use Rattle.std.specs.Prelude.{◌≡◌, ◌<◌, ◌++◌, ◌∷◌, [],
 ghost use Rattle.std.specs.List.{concat, list_all};
 ghost use Rattle.hrt_base.specs.Calls.{Sent, SentPart};
 ghost use Rattle.rank_tables.specs.WellFormed.{IsWellFormed, names_of_hospitals, names_of_residents};
-ghost use Rattle.hrt_reader.specs.Refusal.{Spells};
+ghost use Rattle.hrt_reader.specs.Accepted.{Spells};
 ghost use Rattle.hrt_reader.specs.Spelling.{group_text, hospital_text, items_text, name_at, resident_text, spelling};
 ghost use Rattle.hrt_reader.specs.Written.{is_number, line_of_hospital, line_of_resident, names_of, spaced};
 

@@ -1,6 +1,5 @@
 pub mod Scan
 pub mod Words
-pub mod Values
 pub mod Among
 pub mod OpenGroup
 pub mod Feeds

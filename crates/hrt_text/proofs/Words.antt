@@ -1,16 +1,17 @@
 -- Words of a spelled line: names and capacities, and what tokens they are.
-use Rattle.std.proofs.Common.{◌≡◌, ℕ, ◌<◌, ◌≤◌, Bool, true, not, ◌&&◌, eqb, leb, List, [], ◌∷◌, ◌++◌, length, map, refl, sym, ap, ◌∙◌, append_assoc, arith, rules}
+use Rattle.std.proofs.Common.{◌≡◌, ℕ, ◌<◌, ◌≤◌, Bool, true, not, ◌&&◌, eqb, leb, List, [], ◌∷◌, ◌++◌, length, map, refl, sym, ap, ◌∙◌, append_assoc, arith}
 use Rattle.std.specs.Prelude.{decimal}
 use Rattle.std.specs.List.{list_all, join_with_byte, AllByRecursion}
 use Rattle.std.specs.Str.{all_ascii_digits}
 use Rattle.std.proofs.lemmas.Bool.{and_parts, and_from, leb-true, le-leb}
 use Rattle.std.proofs.lemmas.Bool.Decides.{nat_tests}
 use Rattle.std.proofs.lemmas.List.{append-nil}
-use Rattle.std.proofs.lemmas.Str.Parse.{IsNumeralModel, numerals_by_fold}
+use Rattle.std.proofs.lemmas.Str.Parse.{IsNumeralModel, numerals_by_value, tells_all_ascii_digits}
 use Rattle.std.proofs.lemmas.Fmt.{digits_decimal, digits_value-decimal, length-decimal-le, decimal_nonempty}
 use Rattle.hrt_text.specs.Text.{Token, word, class_of, is_word_class, led_by, all_of, onward_from, tokens}
 use Rattle.rank_tables.specs.Names.{is_name, is_name_byte}
-use Rattle.hrt_text.specs.Grammar.{is_capacity, value_from}
+use Rattle.hrt_text.specs.Grammar.{is_capacity}
+use Rattle.std.specs.Str.Parse.{digits_value}
 use Rattle.hrt_text.proofs.Scan.{behind, run_more}
 
 pub all_weaker : {X : Type 0} (p q : X → Bool) → ((x : X) → p x ≡ true → q x ≡ true) → (xs : List X) → list_all p xs ≡ true → list_all q xs ≡ true
@@ -45,17 +46,17 @@ IsWord-from_name w h =
 
 -- capacities
 
-own : IsNumeralModel (λ ds. all_ascii_digits ds ≡ true) (value_from 0)
-own = numerals_by_fold _ (search rules) value_from (search rules)
+own : IsNumeralModel (λ ds. all_ascii_digits ds ≡ true) (digits_value 10)
+own = numerals_by_value _ tells_all_ascii_digits
 
-pub value_back : (n : ℕ) → n ≤ 20000 → value_from 0 (decimal n) ≡ n
+pub value_back : (n : ℕ) → n ≤ 20000 → digits_value 10 (decimal n) ≡ n
 value_back n le = digits_value-decimal own n (omega arith)
 
 pub capacity_back : (n : ℕ) → n ≤ 20000 → is_capacity (decimal n) ≡ true
 capacity_back n le =
     let some : 0 < length (decimal n) = decimal_nonempty n (omega arith) in
     let few : length (decimal n) ≤ 5 = length-decimal-le 5 n (omega arith) (omega arith) (omega arith) in
-    let value : value_from 0 (decimal n) ≡ n = value_back n le in
+    let value : digits_value 10 (decimal n) ≡ n = value_back n le in
     rw (digits_decimal own n (omega arith), value, le-leb n 20000 le, le-leb 1 (length (decimal n)) (omega arith), le-leb (length (decimal n)) 5 few) refl
 
 letter_from_digit : (b : ℕ) → 48 ≤ b → b ≤ 57 → is_letter b ≡ true

@@ -1,19 +1,15 @@
 -- The lines of an instance's text: the header, declarations with their names, capacities and items, and the end.
-use Rattle.std.specs.Prelude.{ℕ, ◌+◌, ◌-◌, ◌*◌, Bool, true, false, ◌&&◌, nat_le, if◌then◌else◌, List, [], ◌∷◌, ◌++◌, length, filter_map, Option, Some, None, option_map, bytes_eq, codes}
+use Rattle.std.specs.Prelude.{ℕ, Bool, true, false, ◌&&◌, nat_le, if◌then◌else◌, List, [], ◌∷◌, ◌++◌, length, filter_map, Option, Some, None, option_map, bytes_eq, codes}
 use Rattle.std.specs.Str.{all_ascii_digits}
+use Rattle.std.specs.Str.Parse.{digits_value}
 use Rattle.rank_tables.specs.WellFormed.{most_capacity}
 use Rattle.hrt_text.specs.Text.{Token, colon, opening, closing, word, Row}
 
--- names and capacities
-
--- the value of digits behind others of this value
-abbrev pub value_from : ℕ → List ℕ → ℕ
-value_from value [] = value
-value_from value (b ∷ digits) = value_from (value * 10 + (b - 48)) digits
+-- capacities
 
 -- one to five digits, of a value of at most the most posts
 abbrev pub is_capacity : List ℕ → Bool
-is_capacity w = nat_le 1 (length w) && nat_le (length w) 5 && all_ascii_digits w && nat_le (value_from 0 w) most_capacity
+is_capacity w = nat_le 1 (length w) && nat_le (length w) 5 && all_ascii_digits w && nat_le (digits_value 10 w) most_capacity
 
 -- items
 

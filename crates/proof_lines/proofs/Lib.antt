@@ -12,6 +12,4 @@ pub mod Onto
 pub mod Spelled
 pub mod StepByStep
 pub mod StepsBack
-mod WorkedLines
-mod WorkedNotes
 pub mod CutBack

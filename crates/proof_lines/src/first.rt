@@ -33,7 +33,7 @@ fn first_feed(bytes: &[u8]) -> Option<usize>
 }
 
 /// The first line of the bytes and its length with its line feed; `None` where they have no line feed.
-pub fn next_line(alloc: Global, bytes: &[u8]) -> Result<Option<(Line, usize)>, LineRefusal>
+pub fn first_line(alloc: Global, bytes: &[u8]) -> Result<Option<(Line, usize)>, LineRefusal>
     ensures { Answers result (first_line bytes.now) }
 {
     let Some(len) = first_feed(bytes) else {
@@ -53,7 +53,7 @@ pub fn is_end_text(bytes: &[u8]) -> bool
 
 #[cfg(test)]
 mod tests {
-    use super::{MOST_BYTES, is_end_text, next_line};
+    use super::{MOST_BYTES, first_line, is_end_text};
     use crate::{LineKind, LineRefusal, read_note};
     use hrt_base::NoMemory;
     use std::alloc::Global;
@@ -63,7 +63,7 @@ mod tests {
     fn count_lines(rt: &HostRuntime, bytes: &[u8]) -> Result<u32, LineRefusal> {
         let mut rest = bytes;
         for count in 0..100 {
-            match next_line(rt.alloc(), rest)? {
+            match first_line(rt.alloc(), rest)? {
                 Some((_, len)) => match rest.get(len..) {
                     Some(after) => rest = after,
                     None => return Ok(count),

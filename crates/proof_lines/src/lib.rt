@@ -16,7 +16,7 @@ mod steps;
 mod writing;
 
 pub use blank::is_blank_text;
-pub use first::{is_end_text, next_line};
+pub use first::{first_line, is_end_text};
 pub use line::{Claim, Line, PolStep};
 pub use list::{Ids, List, Lits, PolSteps, Vars};
 pub use note::Note;

@@ -1,13 +1,11 @@
 // Numbers and literals.
 
 ghost use Rattle.std.specs.Prelude.{◌≡◌, ◌≤◌, ◌^◌, min, true, false, if◌then◌else◌, Some, None, option_map};
-ghost use Rattle.std.specs.Str.{all_ascii_digits};
-ghost use Rattle.std.specs.Str.Parse.{digits_value};
-ghost use Rattle.row_text.specs.Numbers.{is_small, read_digits, read_id, read_literal, read_number, read_positive, read_variable};
+ghost use Rattle.row_text.specs.Numbers.{is_small, read_id, read_literal, read_number, read_positive, read_variable};
 ghost use Rattle.row_text.specs.Readings.{reading};
 
 use crate::Reading;
-use hrt_base::{Lit, NumberText};
+use hrt_base::{Lit, NumberText, capped_value};
 
 const MOST_ID_DIGITS: usize = 18;
 
@@ -17,21 +15,6 @@ const PAST_IDS: u64 = 1_000_000_000_000_000_000;
 // What variables above it are read as.
 const MOST_VARIABLE: u64 = 4_294_967_295;
 
-// The number that the digits write, where it is at most `most`, and else `most`.
-fn capped_value(digits: &[u8], most: u64) -> Option<u64>
-    requires { most ≤ 10 ^ 18 }
-    ensures { result ≡ (if all_ascii_digits digits.now then Some (min (digits_value 10 digits.now) most) else None) }
-{
-    let mut value: u64 = 0;
-    for digit in digits {
-        if !digit.is_ascii_digit() {
-            return None;
-        }
-        value = (value * 10 + u64::from(*digit - b'0')).min(most);
-    }
-    Some(value)
-}
-
 // Digits without a leading zero.
 fn read_positive(token: &[u8], most: u64) -> Option<u64>
     requires { most ≤ 10 ^ 18 }
@@ -39,7 +22,10 @@ fn read_positive(token: &[u8], most: u64) -> Option<u64>
 {
     match token {
         [] | [b'0', ..] => None,
-        digits => capped_value(digits, most),
+        digits => {
+            let value = capped_value(digits, u128::from(most))?;
+            Some(value as u64)
+        }
     }
 }
 

@@ -1,6 +1,6 @@
 use Rattle.std.proofs.Common.{◌≡◌, ◌∙◌, ◌+◌, ◌++◌, ◌∷◌, [], ℕ, List, sym, ap, subst, rules, Option, map, length, take, drop, arith}
 use Rattle.hrt_text.specs.Text.{Row, rows, tokens}
-use Rattle.hrt_reader.specs.Refusal.{Refusal, refusal_but_6, resident_names, hospital_names}
+use Rattle.hrt_reader.specs.Refusal.{Refusal, refusal_but_6, declared_residents, declared_hospitals}
 use Rattle.hrt_reader.specs.Survey.{IsRefusedBy}
 use Rattle.hrt_text.specs.Views.{texts}
 use Rattle.hrt_reader.specs.Stages.{IsStage, StepsTo}
@@ -39,8 +39,8 @@ loop-line-preserved c =
       rest = drop_next all i row after e;
       within = omega (arith, within_at all i row after e);
       stage = subst (λ (l : List Row). IsStage c.in-Next.next l) (sym next) done.1;
-      residents = ap (λ (l : List Row). resident_names l) next ∙ done.2;
-      hospitals = ap (λ (l : List Row). hospital_names l) next ∙ done.3;
+      residents = ap (λ (l : List Row). declared_residents l) next ∙ done.2;
+      hospitals = ap (λ (l : List Row). declared_hospitals l) next ∙ done.3;
       clean = clean_next all i row after e v.clean done.0;
     }
 
@@ -76,7 +76,7 @@ returns-clause-residents c =
     let v = c.loop-line.invariant in
     let end : c.loop-line.number ≡ length all = all_read all c.loop-line.number (v.rest ∙ ap (map tokens) c.in_default.ensures.none) v.within in
     let whole : take c.loop-line.number all ≡ all = ap (λ (k : ℕ). take k all) end ∙ all_taken all in
-    sym v.residents ∙ ap (λ (l : List Row). resident_names l) whole
+    sym v.residents ∙ ap (λ (l : List Row). declared_residents l) whole
 
 pub returns-clause-hospitals : goal.returns-clause-hospitals
 returns-clause-hospitals c =
@@ -84,4 +84,4 @@ returns-clause-hospitals c =
     let v = c.loop-line.invariant in
     let end : c.loop-line.number ≡ length all = all_read all c.loop-line.number (v.rest ∙ ap (map tokens) c.in_default.ensures.none) v.within in
     let whole : take c.loop-line.number all ≡ all = ap (λ (k : ℕ). take k all) end ∙ all_taken all in
-    sym v.hospitals ∙ ap (λ (l : List Row). hospital_names l) whole
+    sym v.hospitals ∙ ap (λ (l : List Row). declared_hospitals l) whole

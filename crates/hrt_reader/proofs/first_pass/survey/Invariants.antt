@@ -1,6 +1,6 @@
 use Rattle.std.proofs.Common.{◌≡◌, ◌≤◌, length, take, drop}
 use Rattle.hrt_text.specs.Text.{rows}
-use Rattle.hrt_reader.specs.Refusal.{hospital_names, resident_names}
+use Rattle.hrt_reader.specs.Refusal.{declared_hospitals, declared_residents}
 use Rattle.hrt_reader.specs.Stages.{IsStage}
 use Rattle.hrt_text.specs.Views.{texts}
 use Rattle.hrt_reader.proofs.Places.{IsClean}
@@ -12,8 +12,8 @@ invariant-loop-line l = record {
   rest : drop l.number (rows l.text) ≡ rows l.rest;
   within : l.number ≤ length (rows l.text);
   stage : IsStage l.stage (take l.number (rows l.text));
-  residents : resident_names (take l.number (rows l.text)) ≡ texts l.residents.keys;
-  hospitals : hospital_names (take l.number (rows l.text)) ≡ texts l.hospitals.keys;
+  residents : declared_residents (take l.number (rows l.text)) ≡ texts l.residents.keys;
+  hospitals : declared_hospitals (take l.number (rows l.text)) ≡ texts l.hospitals.keys;
   clean : IsClean (rows l.text) l.number;
 }
 

@@ -3,7 +3,7 @@ use Rattle.hrt_text.specs.Text.{Row, rows, tokens}
 use Rattle.rank_tables.specs.Instance.{Lists}
 use Rattle.rank_tables.specs.declared.draft.DraftResident.{DraftResident}
 use Rattle.rank_tables.specs.declared.draft.DraftHospital.{DraftHospital}
-use Rattle.hrt_reader.specs.Refusal.{resident_names, hospital_names, residents_of, hospitals_of, resident_in, hospital_in, has_kind}
+use Rattle.hrt_reader.specs.Refusal.{declared_residents, declared_hospitals, residents_of, hospitals_of, resident_in, hospital_in, has_kind}
 use Rattle.hrt_reader.proofs.Places.{drop_next, all_read, all_taken, within_at}
 use Rattle.hrt_reader.proofs.Accepted.{fine_at, six_at}
 use Rattle.hrt_reader.proofs.Unknowns.{AllKnown, unknown_refused, all_known, few_residents, few_hospitals, residents_more, hospitals_more, both}
@@ -53,29 +53,29 @@ loop-line-preserved c =
     record {
       rest = drop_next all i row after e;
       within = omega (arith, within_at all i row after e);
-      residents = residents_more (hospital_names all) all i row after e
-          ∙ ap (λ (l : List DraftResident). l ++ map (resident_in (hospital_names all)) (residents_of (row ∷ []))) v.residents
+      residents = residents_more (declared_hospitals all) all i row after e
+          ∙ ap (λ (l : List DraftResident). l ++ map (resident_in (declared_hospitals all)) (residents_of (row ∷ []))) v.residents
           ∙ ap (λ (names : List (List ℕ)). c.loop-line.residents.items ++ map (resident_in names) (residents_of (row ∷ []))) (sym c.requires.hospitals)
           ∙ sym (done.residents c.if-not-known.false);
-      hospitals = hospitals_more (resident_names all) all i row after e
-          ∙ ap (λ (l : List DraftHospital). l ++ map (hospital_in (resident_names all)) (hospitals_of (row ∷ []))) v.hospitals
+      hospitals = hospitals_more (declared_residents all) all i row after e
+          ∙ ap (λ (l : List DraftHospital). l ++ map (hospital_in (declared_residents all)) (hospitals_of (row ∷ []))) v.hospitals
           ∙ ap (λ (names : List (List ℕ)). c.loop-line.hospitals.items ++ map (hospital_in names) (hospitals_of (row ∷ []))) (sym c.requires.residents)
           ∙ sym (done.hospitals c.if-not-known.false);
       known = below_more (λ (k : ℕ). has_kind all (suc k) 6 ≡ false) i v.known (six_at all i row after c.requires.accepted e ∙ known ∙ ap not c.if-not-known.false);
     }
 
-pub returns-clause-spells : goal.returns-clause-spells
-returns-clause-spells c =
+pub returns-clause-reads : goal.returns-clause-reads
+returns-clause-reads c =
     let all : List Row = rows c.args.text.now in
     let v = c.loop-line.invariant in
     let end : c.loop-line.number ≡ length all = all_read all c.loop-line.number (v.rest ∙ ap (map tokens) c.in_default.ensures.none) v.within in
     let whole : take c.loop-line.number all ≡ all = ap (λ (k : ℕ). take k all) end ∙ all_taken all in
     record {
       accepted = all_known all c.requires.accepted (subst (λ (k : ℕ). AllKnown all k) end v.known);
-      says = ap (λ (l : List DraftResident). both l (map (hospital_in (resident_names all)) (hospitals_of all)))
-          (ap (λ (l : List Row). map (resident_in (hospital_names all)) (residents_of l)) (sym whole) ∙ v.residents)
+      says = ap (λ (l : List DraftResident). both l (map (hospital_in (declared_residents all)) (hospitals_of all)))
+          (ap (λ (l : List Row). map (resident_in (declared_hospitals all)) (residents_of l)) (sym whole) ∙ v.residents)
           ∙ ap (both c.loop-line.residents.items)
-          (ap (λ (l : List Row). map (hospital_in (resident_names all)) (hospitals_of l)) (sym whole) ∙ v.hospitals);
+          (ap (λ (l : List Row). map (hospital_in (declared_residents all)) (hospitals_of l)) (sym whole) ∙ v.hospitals);
     }
 
 pub returns-clause-well_formed : goal.returns-clause-well_formed
@@ -85,8 +85,8 @@ returns-clause-well_formed c =
     let end : c.loop-line.number ≡ length all = all_read all c.loop-line.number (v.rest ∙ ap (map tokens) c.in_default.ensures.none) v.within in
     let whole : take c.loop-line.number all ≡ all = ap (λ (k : ℕ). take k all) end ∙ all_taken all in
     let accepted = all_known all c.requires.accepted (subst (λ (k : ℕ). AllKnown all k) end v.known) in
-    let says = ap (λ (l : List DraftResident). both l (map (hospital_in (resident_names all)) (hospitals_of all)))
-    (ap (λ (l : List Row). map (resident_in (hospital_names all)) (residents_of l)) (sym whole) ∙ v.residents)
+    let says = ap (λ (l : List DraftResident). both l (map (hospital_in (declared_residents all)) (hospitals_of all)))
+    (ap (λ (l : List Row). map (resident_in (declared_hospitals all)) (residents_of l)) (sym whole) ∙ v.residents)
     ∙ ap (both c.loop-line.residents.items)
-    (ap (λ (l : List Row). map (hospital_in (resident_names all)) (hospitals_of l)) (sym whole) ∙ v.hospitals) in
+    (ap (λ (l : List Row). map (hospital_in (declared_residents all)) (hospitals_of l)) (sym whole) ∙ v.hospitals) in
     subst (λ (l : Lists). IsWellFormed l) says (accepted_well_formed all accepted)

@@ -4,7 +4,7 @@ use Rattle.hrt_text.specs.Text.{Row, tokens}
 use Rattle.hrt_text.specs.Grammar.{resident, hospital}
 use Rattle.hrt_reader.specs.Stages.{StepsTo}
 use Rattle.hrt_text.specs.Views.{texts, view_form}
-use Rattle.hrt_reader.specs.Refusal.{resident_names, hospital_names}
+use Rattle.hrt_reader.specs.Refusal.{declared_residents, declared_hospitals}
 use Rattle.hrt_reader.specs.declared.stages.Stage.TheVariants.{Open}
 use Rattle.hrt_reader.specs.declared.stages.Step.TheVariants.{Next}
 use Rattle.hrt_reader.proofs.LineSteps.{open_blank, open_finish, declared_step, wrong_line, at_none}
@@ -33,7 +33,7 @@ returns-in_ok-flaw-in-Some-Resident c = λ before after h r k last.
     declared_step before row after (resident name (tokens c.in-Some-Resident.items.now)) c.in_ok-flaw-in-Some-Resident.flaw c.args.is_last c.step_by.result rs hs
     h c.in-Some-Resident.ensures.filled e refl (made.least before (before ++ row ∷ after) r) last c.step_by.ensures
     (λ (none : c.in_ok-flaw-in-Some-Resident.flaw ≡ None).
-    (ap (λ (ns : List (List ℕ)). ns ++ name ∷ []) r ∙ sym (at_none c.in_ok-flaw-in-Some-Resident.flaw made.added none), append-nil (hospital_names before) ∙ k))
+    (ap (λ (ns : List (List ℕ)). ns ++ name ∷ []) r ∙ sym (at_none c.in_ok-flaw-in-Some-Resident.flaw made.added none), append-nil (declared_hospitals before) ∙ k))
 
 pub returns-in_ok-flaw-in-Some-Hospital : goal.returns-in_ok-flaw-in-Some-Hospital
 returns-in_ok-flaw-in-Some-Hospital c = λ before after h r k last.
@@ -46,4 +46,4 @@ returns-in_ok-flaw-in-Some-Hospital c = λ before after h r k last.
     declared_step before row after (hospital name c.in-Some-Hospital.capacity.now (tokens c.in-Some-Hospital.items.now)) c.in_ok-flaw-in-Some-Hospital.flaw c.args.is_last c.step_by-in-Some-Hospital.result rs hs
     h c.in-Some-Hospital.ensures.filled e refl (made.least before (before ++ row ∷ after) k) last c.step_by-in-Some-Hospital.ensures
     (λ (none : c.in_ok-flaw-in-Some-Hospital.flaw ≡ None).
-    (append-nil (resident_names before) ∙ r, ap (λ (ns : List (List ℕ)). ns ++ name ∷ []) k ∙ sym (at_none c.in_ok-flaw-in-Some-Hospital.flaw made.added none)))
+    (append-nil (declared_residents before) ∙ r, ap (λ (ns : List (List ℕ)). ns ++ name ∷ []) k ∙ sym (at_none c.in_ok-flaw-in-Some-Hospital.flaw made.added none)))

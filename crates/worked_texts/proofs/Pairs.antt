@@ -3,7 +3,7 @@ use Rattle.std.specs.Prelude.{◌≡◌, ℕ, List, [], ◌∷◌, ◌++◌, Opt
 use Rattle.hrt_text.specs.Text.{rows}
 use Rattle.hrt_reader.specs.Refusal.{Refusal}
 use Rattle.hrt_reader.specs.PairsText.{pairs_refusal, pairs_spelling, SpellsPairs}
-use Rattle.hrt_reader.proofs.Worked.{text, at, tied}
+use Rattle.worked_texts.proofs.Texts.{text, at, tied}
 
 abbrev refused : List (List ℕ) → Option Refusal
 refused lines = pairs_refusal tied (rows (text lines))

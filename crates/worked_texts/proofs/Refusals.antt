@@ -1,23 +1,11 @@
--- The definitions, computed on texts worked by hand.
-use Rattle.std.specs.Prelude.{◌≡◌, ℕ, true, false, List, [], ◌∷◌, ◌++◌, flat_map, replicate, Option, Some, None, refl, codes}
+-- Which kinds stand in texts of instances.
+use Rattle.std.specs.Prelude.{◌≡◌, true, false, [], ◌∷◌, ◌++◌, replicate, None, refl, codes}
 use Rattle.std.specs.Fmt.{digits}
 use Rattle.hrt_text.specs.Text.{rows, tokens, colon, opening, closing, word}
-use Rattle.rank_tables.specs.Instance.{Lists}
 use Rattle.hrt_text.specs.Grammar.{form_of}
-use Rattle.hrt_reader.specs.Refusal.{refusal, lists_of_rows, Refusal, Spells, has_kind, too_many_residents, too_many_hospitals}
+use Rattle.hrt_reader.specs.Refusal.{refusal, lists_of_rows, has_kind, too_many_residents, too_many_hospitals}
 use Rattle.hrt_reader.specs.Spelling.{spelling}
-
-abbrev pub text : List (List ℕ) → List ℕ
-text ls = flat_map (λ l. l ++ 10 ∷ []) ls
-
-abbrev pub at : ℕ → ℕ → Option Refusal
-at k n = Some (record { line = k; kind = n })
-
-abbrev pub tied : Lists
-tied = record {
-  residents = record { name = codes "a"; groups = (0 ∷ []) ∷ (1 ∷ []) ∷ [] } ∷ record { name = codes "b"; groups = (0 ∷ []) ∷ [] } ∷ [];
-  hospitals = record { name = codes "x"; capacity = 1; groups = (0 ∷ 1 ∷ []) ∷ [] } ∷ record { name = codes "y"; capacity = 1; groups = (0 ∷ []) ∷ [] } ∷ [];
-}
+use Rattle.worked_texts.proofs.Texts.{text, at, tied}
 
 pub tied-spelling : spelling tied ≡ text (codes "hrt 1" ∷ codes "resident a: x y" ∷ codes "resident b: x" ∷ codes "hospital x 1: (a b)" ∷ codes "hospital y 1: a" ∷ codes "end" ∷ [])
 unfolding digits
@@ -118,10 +106,6 @@ unknown_least = refl
 
 pub after_bad_header : refusal (rows (text (codes "hrt" ∷ codes "resident a a" ∷ codes "bad" ∷ []))) ≡ at 1 1
 after_bad_header = refl
-
--- line ends of two bytes, tabs, blank lines, comments, blanks in the tie, and no line feed after `end`
-pub loose : Spells (13 ∷ 10 ∷ 104 ∷ 114 ∷ 116 ∷ 9 ∷ 49 ∷ 13 ∷ 10 ∷ 13 ∷ 10 ∷ 114 ∷ 101 ∷ 115 ∷ 105 ∷ 100 ∷ 101 ∷ 110 ∷ 116 ∷ 9 ∷ 97 ∷ 58 ∷ 9 ∷ 120 ∷ 9 ∷ 121 ∷ 32 ∷ 35 ∷ 32 ∷ 110 ∷ 111 ∷ 116 ∷ 101 ∷ 13 ∷ 10 ∷ 114 ∷ 101 ∷ 115 ∷ 105 ∷ 100 ∷ 101 ∷ 110 ∷ 116 ∷ 32 ∷ 98 ∷ 58 ∷ 32 ∷ 120 ∷ 35 ∷ 110 ∷ 111 ∷ 116 ∷ 101 ∷ 13 ∷ 10 ∷ 104 ∷ 111 ∷ 115 ∷ 112 ∷ 105 ∷ 116 ∷ 97 ∷ 108 ∷ 32 ∷ 120 ∷ 32 ∷ 49 ∷ 58 ∷ 32 ∷ 40 ∷ 32 ∷ 97 ∷ 32 ∷ 32 ∷ 98 ∷ 32 ∷ 41 ∷ 13 ∷ 10 ∷ 9 ∷ 104 ∷ 111 ∷ 115 ∷ 112 ∷ 105 ∷ 116 ∷ 97 ∷ 108 ∷ 9 ∷ 121 ∷ 32 ∷ 49 ∷ 9 ∷ 58 ∷ 97 ∷ 13 ∷ 10 ∷ 101 ∷ 110 ∷ 100 ∷ []) tied
-loose = record { accepted = refl; says = refl }
 
 pub some_tokens : tokens (codes "a:(bc d)#e") ≡ word (codes "a") ∷ colon ∷ opening ∷ word (codes "bc") ∷ word (codes "d") ∷ closing ∷ []
 some_tokens = refl

@@ -1,6 +1,6 @@
 -- What the line and the note of the bound row do to a derivation.
-use Rattle.std.proofs.Common.{◌≡◌, ℕ, ◌-◌, ◌<◌, ◌≤◌, ◌^◌, true, List, [], ◌∷◌, ◌++◌, nat_le, length, sym, ap, ap₂, ◌∙◌, subst, inr, arith}
-use Rattle.std.specs.Prelude.{slice_get, Some, Result, Ok, Err, IsOk, OnErr, is_ok, decimal}
+use Rattle.std.proofs.Common.{◌≡◌, ℕ, ◌-◌, ◌<◌, ◌≤◌, ◌^◌, true, List, [], ◌∷◌, ◌++◌, nat_le, length, refl, sym, ap, ap₂, ◌∙◌, subst, inr, arith}
+use Rattle.std.specs.Prelude.{IsTrue, slice_get, Option, None, Some, Result, Ok, Err, IsOk, OnErr, is_ok, decimal}
 use Rattle.std.proofs.lemmas.Bool.{and_from, le-leb}
 use Rattle.std.proofs.lemmas.Fmt.{length-decimal-le}
 use Rattle.std.proofs.lemmas.List.{length-append}
@@ -21,11 +21,14 @@ use Rattle.proof_rules.specs.Pol.{pol_row}
 use Rattle.proof_rules.specs.States.{IsInOrder, State, with_row}
 use Rattle.derivation.specs.Deletions.{AreUnitRows, Deletions, is_deleted}
 use Rattle.derivation.specs.Derived.{Derived}
+use Rattle.derivation.specs.Pieces.{ALine, ANote, TakesLine, TakesNote, traced}
 use Rattle.derivation.specs.Ready.{IsReady}
 use Rattle.derivation.specs.Steps.{IsWritable, Takes, with_new_row, with_note}
+use Rattle.derivation.specs.Traces.{IsLawfulPol, NamesCeiling, Trace}
+use Rattle.derivation.proofs.NoneDeleted.{model_below, none_deleted}
 use Rattle.derivation.proofs.Readiness.{ready_note, ready_row, row_last, row_numbered}
 use Rattle.capacity_bound.specs.Steps.{AddsRows, bound_operands}
-use Rattle.capacity_bound.specs.Bound.{DerivesBound, StopsEarly, bound_row, with_bound, with_bound_row}
+use Rattle.capacity_bound.specs.Bound.{AddsBoundLawfully, DerivesBound, StopsEarly, bound_row, with_bound, with_bound_row}
 use Rattle.capacity_bound.proofs.BoundLine.{AddsUp, bound_adds_up}
 
 -- ---- notes of rows
@@ -96,3 +99,30 @@ module _ (lists : Lists) (deletions : Deletions) (old : Derived) (same : old.lis
             let found : row_of old.state.next now.state.live ≡ Some (bound_row lists deletions) = row_last old.state.next (bound_row lists deletions) old.state.live order in
             subst IsReady (sym new_is)
             (ready_note (BoundRow (row_no old.state.next)) now (row_numbered old.state.next (bound_row lists deletions) now.state.live found) (ready_row (bound_row lists deletions) (line_text (Pol steps)) old ready))
+
+        pub lawful : IsTrue (is_spellable_id id) → length (note_text (BoundRow id)) ≤ most_bytes → AddsBoundLawfully lists deletions (Some id) old new
+        lawful spelled short are t none =
+            let there : row_of id.0 made.state.live ≡ Some (bound_row lists deletions) = ap₂ (λ (n : ℕ) (d : Derived). row_of n d.state.live) number made_is ∙ row_last old.state.next (bound_row lists deletions) old.state.live order in
+            let ready_made : IsReady made = subst IsReady (sym made_is) (ready_row (bound_row lists deletions) (line_text (Pol steps)) old ready) in
+            let line : TakesLine (Pol steps) old made = record { writable = line_writable; unconcluded = ready.unconcluded; takes = taken } in
+            let note : TakesNote (BoundRow id) made new =
+            record { made = spelled; short = short; unconcluded = ready_made.unconcluded; so = row_numbered id.0 (bound_row lists deletions) made.state.live there; is = noted } in
+            let same_made : made.lists ≡ lists = ap (λ (d : Derived). d.lists) made_is ∙ same in
+            let behind : length (rows made.lists) < id.0 =
+            omega (arith, ap (λ (l : Lists). length (rows l)) same_made, ap (λ (l : Lists). length (rows l)) same, number, model_below old ready order) in
+            let names : NamesCeiling made.lists made.state.live id = subst (λ (l : Lists). NamesCeiling l made.state.live id) (sym same_made) (record { gone = is_deleted deletions; are = are; row = there }) in
+            let pairs : 0 < pair_count made.lists = subst (λ (l : Lists). 0 < pair_count l) (sym same_made) some in
+            let mid : Trace = traced (ALine (Pol steps)) old made t in
+            let next : made.state.next ≡ new.state.next = sym (ap (λ (d : Derived). d.state.next) noted) in
+            record {
+              steps = steps;
+              told = traced (ANote (BoundRow id)) made new mid;
+              lawful = (
+                made,
+                line,
+                (none_deleted old ready, subst (λ (s : Option ℕ). IsLawfulPol old.lists old.state.next t.told.held s steps) (sym none) tt),
+                (new, note, (none_deleted made ready_made, (behind, pairs, none, names)), (refl, refl)),
+              );
+              since = ap (λ (n : ℕ). Some n) next;
+              units = refl;
+            }

@@ -10,4 +10,3 @@ pub mod Counted
 pub mod Pushed
 pub mod BoundDerived
 pub mod PutSums
-mod Worked

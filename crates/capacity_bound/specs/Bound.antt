@@ -1,10 +1,10 @@
 -- The bound row, and what making it does to a derivation.
-use Rattle.std.specs.Prelude.{◌≡◌, ◌<◌, ◌⊎◌, List, Option, Some, None, pos, neg_ℤ}
+use Rattle.std.specs.Prelude.{◌≡◌, ◌<◌, ◌⊎◌, List, [], ◌∷◌, Option, Some, None, pos, neg_ℤ}
 use Rattle.hrt_base.specs.declared.numbered.RowNo.{RowNo}
 use Rattle.pb_rows.specs.Terms.{PlainRow}
 use Rattle.rank_tables.specs.Instance.{Lists, pair_count}
 use Rattle.stability_model.specs.Model.{formula}
-use Rattle.stability_model.specs.Gone.{ceiling}
+use Rattle.stability_model.specs.Gone.{AreGone, ceiling}
 use Rattle.proof_lines.specs.declared.line.PolStep.{PolStep}
 use Rattle.proof_lines.specs.declared.line.Line.TheVariants.{Pol}
 use Rattle.proof_lines.specs.declared.note.Note.TheVariants.{Bound as BoundRow}
@@ -13,7 +13,9 @@ use Rattle.proof_lines.specs.Texts.{line_text}
 use Rattle.proof_rules.specs.Claims.{at_least_row}
 use Rattle.derivation.specs.Deletions.{Deletions, is_deleted}
 use Rattle.derivation.specs.Derived.{Derived}
+use Rattle.derivation.specs.Pieces.{ALine, ANote, AddsLawfully}
 use Rattle.derivation.specs.Steps.{with_new_row, with_note}
+use Rattle.derivation.specs.Traces.{Trace}
 use Rattle.capacity_bound.specs.Steps.{AddsRows, bound_operands}
 
 -- the objective is at least minus the ceiling
@@ -50,3 +52,18 @@ pub record LacksNote (lists : Lists) (deletions : Deletions) (old new : Derived)
 -- where memory was wanting nothing was done, or all but the note
 abbrev pub StopsEarly : Lists → Deletions → Derived → Derived → Type 0
 StopsEarly lists deletions old new = (new ≡ old) ⊎ LacksNote lists deletions old new
+
+-- ---- the law
+
+-- a `pol` line and a bound note of this row were added, which keep the law of a written proof, and the note is told
+pub record AddsBound (id : RowNo) (old new : Derived) (t : Trace) : Type 0 where
+  pub steps : List PolStep
+  pub told : Trace
+  pub lawful : AddsLawfully (ALine (Pol steps) ∷ ANote (BoundRow id) ∷ []) old t new told
+  pub since : told.since ≡ Some new.state.next
+  pub units : told.units ≡ t.units
+
+-- so it is wherever no bound note was told of before and exactly the pairs that are gone are deleted; without pairs nothing is done
+abbrev pub AddsBoundLawfully : Lists → Deletions → Option RowNo → Derived → Derived → Type 0
+AddsBoundLawfully lists deletions None old new = new ≡ old
+AddsBoundLawfully lists deletions (Some id) old new = AreGone lists (is_deleted deletions) → (t : Trace) → t.since ≡ None → AddsBound id old new t

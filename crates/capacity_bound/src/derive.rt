@@ -4,7 +4,7 @@ ghost use Rattle.pb_rows.specs.Formula.{row_of};
 ghost use Rattle.derivation.specs.Deletions.{AreUnitRows};
 ghost use Rattle.derivation.specs.Derived.{StaysValid};
 ghost use Rattle.derivation.specs.Ready.{IsReady};
-ghost use Rattle.capacity_bound.specs.Bound.{DerivesBound, StopsEarly, bound_row};
+ghost use Rattle.capacity_bound.specs.Bound.{AddsBoundLawfully, DerivesBound, StopsEarly, bound_row};
 
 use crate::adding::steps_adding;
 use crate::operands::bound_operands;
@@ -31,6 +31,7 @@ pub fn derive_bound(
     requires units { AreUnitRows deriv.old.state.live gone.now }
     ensures bound { IfOk result (λ id. DerivesBound inst.now gone.now id deriv.old deriv.new) }
     ensures row { IfOk result (λ id. IfSome id (λ id. row_of id.0 deriv.new.state.live ≡ Some (bound_row inst.now gone.now))) }
+    ensures lawful { IfOk result (λ id. AddsBoundLawfully inst.now gone.now id deriv.old deriv.new) }
     ensures ready { OnOk result (IsReady deriv.new) }
     ensures early { OnErr result (StopsEarly inst.now gone.now deriv.old deriv.new) }
     ensures valid { StaysValid deriv.old deriv.new }

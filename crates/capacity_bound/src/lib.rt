@@ -6,8 +6,6 @@ mod adding;
 mod counts;
 mod derive;
 mod operands;
-#[cfg(test)]
-mod tests;
 
 pub use counts::ceiling;
 pub use derive::derive_bound;

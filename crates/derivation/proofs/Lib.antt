@@ -9,6 +9,12 @@ mod Fronts
 mod Taken
 pub mod Solutions
 mod Asked
-mod Starts
+pub mod Starts
 mod Counts
 mod WorkedCalls
+pub mod Forgotten
+pub mod Traced
+pub mod NoneDeleted
+mod CutsTraced
+mod Loaded
+pub mod EndsTraced

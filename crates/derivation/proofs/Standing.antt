@@ -73,7 +73,7 @@ module _ (lists : Lists) (bytes : List ℕ) (note : Note) (s : State) (held : He
 -- ---- the calls
 
 -- a derivation that isn't concluded leads to its state
-open_leads : (text : List ℕ) (d : Derived) → d.claim ≡ None → StandsFor text d → IsProofUpTo d.lists (text ++ d.pending) (Proving d.state) d.held
+pub open_leads : (text : List ℕ) (d : Derived) → d.claim ≡ None → StandsFor text d → IsProofUpTo d.lists (text ++ d.pending) (Proving d.state) d.held
 open_leads text d e stands = subst (λ (claim : Option Claim). IsProofUpTo d.lists (text ++ d.pending) (place_of claim d.state) d.held) e stands
 
 pub stays-step : (line : Line) (old new : Derived) → IsWritable line → (line ≡ Comment → ⊥) → old.claim ≡ None → Takes line old new → StaysValid old new
@@ -113,14 +113,14 @@ pub header_writable : IsWritable Header
 header_writable = record { made = refl; small = refl; short = lit≤ tt }
 
 module _ (lists : Lists) (bytes : List ℕ) (s : State) (held : Held) (claim : Claim) (leads : IsProofUpTo lists bytes (Proving s) held) (writable : IsWritable (Conclusion claim)) (shown : Shows (formula lists) s claim) where
-  leads_output : IsProofUpTo lists (bytes ++ line_text Output) (Closing s) held
+  pub leads_output : IsProofUpTo lists (bytes ++ line_text Output) (Closing s) held
   leads_output = leads_line lists bytes Output (Proving s) (Closing s) held leads output_writable (λ e. absurd (cc)) (output_moves claim writable.small lists s)
 
-  leads_claim : IsProofUpTo lists ((bytes ++ line_text Output) ++ line_text (Conclusion claim)) (Claimed claim) held
+  pub leads_claim : IsProofUpTo lists ((bytes ++ line_text Output) ++ line_text (Conclusion claim)) (Claimed claim) held
   leads_claim =
       leads_line lists (bytes ++ line_text Output) (Conclusion claim) (Closing s) (Claimed claim) held leads_output writable (λ e. absurd (cc)) (claim_moves claim writable.small lists s shown)
 
-  leads_done : IsProofUpTo lists (((bytes ++ line_text Output) ++ line_text (Conclusion claim)) ++ line_text End) (Done claim) held
+  pub leads_done : IsProofUpTo lists (((bytes ++ line_text Output) ++ line_text (Conclusion claim)) ++ line_text End) (Done claim) held
   leads_done =
       leads_line lists ((bytes ++ line_text Output) ++ line_text (Conclusion claim)) End (Claimed claim) (Done claim) held leads_claim end_writable (λ e. absurd (cc)) (end_moves claim writable.small lists)
 
@@ -128,7 +128,7 @@ module _ (lists : Lists) (bytes : List ℕ) (s : State) (held : Held) (claim : C
   leads_end = subst (λ (all : List ℕ). IsProofUpTo lists all (Done claim) held)
       (append_assoc (bytes ++ line_text Output) (line_text (Conclusion claim)) (line_text End) ∙ append_assoc bytes (line_text Output) (line_text (Conclusion claim) ++ line_text End)) leads_done
 
-concluded_leads : (claim : Claim) (old : Derived) (text : List ℕ) → IsWritable (Conclusion claim) → Shows (formula old.lists) old.state claim → old.claim ≡ None → StandsFor text old → StandsFor text (concluded claim old)
+pub concluded_leads : (claim : Claim) (old : Derived) (text : List ℕ) → IsWritable (Conclusion claim) → Shows (formula old.lists) old.state claim → old.claim ≡ None → StandsFor text old → StandsFor text (concluded claim old)
 concluded_leads claim old text w shown begun stands =
     subst (λ (bytes : List ℕ). IsProofUpTo old.lists bytes (Done claim) old.held) (append_assoc text old.pending (end_lines claim))
     (leads_end old.lists (text ++ old.pending) old.state old.held claim (open_leads text old begun stands) w shown)

@@ -21,8 +21,10 @@ use Rattle.proof_rules.specs.Valid.{Headed, Moves, Proving}
 use Rattle.proof_lines.specs.Texts.{line_text}
 use Rattle.derivation.specs.Derived.{Derived, StandsFor}
 use Rattle.derivation.specs.Ready.{IsReady}
+use Rattle.derivation.specs.Pieces.{StandsTraced, opened}
 use Rattle.derivation.specs.Steps.{IsWritable, first_derived}
 use Rattle.derivation.proofs.Readiness.{ready_first}
+use Rattle.derivation.proofs.EndsTraced.{starts_traced}
 use Rattle.derivation.proofs.Standing.{stands-first}
 
 -- ---- lists that are taken from their fronts
@@ -61,17 +63,6 @@ numbered_on xs k live now row e at is =
     ∙ sym (numbered-append 1 (take k xs) (row ∷ []))
     ∙ ap (numbered_from 1) (taken_on (take k xs) (take k xs ++ row ∷ []) xs k row refl at refl)
 
--- ---- the counts of rows
-
-pub rows_count : (lists : Lists) → length (rows lists) ≡ pair_row_no lists 0 + pair_count lists
-rows_count lists =
-    let a = length-map (written_rows lists) in_normal_form in
-    let b = length-append (resident_rows lists ++ hospital_rows lists) (map (pair_row lists) (numbers_to (pair_count lists))) in
-    let c = length-append (resident_rows lists) (hospital_rows lists) in
-    let d = length-map (numbers_to (pair_count lists)) (pair_row lists) in
-    let e = length-numbers_to (pair_count lists) in
-    omega arith
-
 -- ---- the count line
 
 pub count_writable : (n : ℕ) → n < 2 ^ 32 → IsWritable (Count n)
@@ -89,18 +80,24 @@ count_moves lists = record { leads = rw (eq-eqb (length (rows lists)) (length (r
 pub kept_on : (k : ℕ) (kept now : List ℕ) → kept ≡ numbers_to k → now ≡ kept ++ (k + 1) ∷ [] → now ≡ numbers_to (k + 1)
 kept_on k kept now e is = is ∙ ap (λ (ns : List ℕ). ns ++ (k + 1) ∷ []) e ∙ rw add-one refl
 
-module _ (lists seen : Lists) (live : List NumberedRow) (next : ℕ) (kept pending : List ℕ) (same : seen ≡ lists) (rows_are : live ≡ numbered_from 1 (rows lists)) (next_is : next ≡ length (rows lists) + 1) (kept_are : kept ≡ numbers_to (pair_row_no lists 0)) (text : pending ≡ line_text Header ++ line_text (Count (length (rows lists)))) (few : length (rows lists) < 2 ^ 32) where
+module _ (lists seen : Lists) (live : List NumberedRow) (next : ℕ) (kept learned pending : List ℕ) (same : seen ≡ lists) (rows_are : live ≡ numbered_from 1 (rows lists)) (next_is : next ≡ length (rows lists) + 1) (kept_are : kept ≡ numbers_to (pair_row_no lists 0)) (none : learned ≡ []) (text : pending ≡ line_text Header ++ line_text (Count (length (rows lists)))) (few : length (rows lists) < 2 ^ 32) where
   made : Derived
-  made = record { lists = seen; state = record { live = live; next = next; least = None }; held = record { kept = kept; learned = []; learn_notes = 0 }; claim = None; pending = pending }
+  made = record { lists = seen; state = record { live = live; next = next; least = None }; held = record { kept = kept; learned = learned; learn_notes = 0 }; claim = None; pending = pending }
 
   made_is : made ≡ first_derived lists
   unfolding made
   made_is = cc
 
-  pub first_stands : StandsFor [] (record { lists = seen; state = record { live = live; next = next; least = None }; held = record { kept = kept; learned = []; learn_notes = 0 }; claim = None; pending = pending })
+  pub first_stands : StandsFor [] (record { lists = seen; state = record { live = live; next = next; least = None }; held = record { kept = kept; learned = learned; learn_notes = 0 }; claim = None; pending = pending })
   unfolding made
   first_stands = subst (StandsFor []) (sym made_is) (stands-first lists (Count (length (rows lists))) (count_writable (length (rows lists)) few) (λ e. absurd (cc)) (count_moves lists))
 
-  pub first_ready : IsReady (record { lists = seen; state = record { live = live; next = next; least = None }; held = record { kept = kept; learned = []; learn_notes = 0 }; claim = None; pending = pending })
+  pub first_ready : IsReady (record { lists = seen; state = record { live = live; next = next; least = None }; held = record { kept = kept; learned = learned; learn_notes = 0 }; claim = None; pending = pending })
   unfolding made
   first_ready = subst IsReady (sym made_is) (ready_first lists)
+
+  pub first_lawful : StandsTraced [] (record { lists = seen; state = record { live = live; next = next; least = None }; held = record { kept = kept; learned = learned; learn_notes = 0 }; claim = None; pending = pending }) (opened lists)
+  unfolding made
+  first_lawful =
+      subst (λ (d : Derived). StandsTraced [] d (opened lists)) (sym made_is)
+      (starts_traced lists (count_writable (length (rows lists)) few) (stands-first lists (Count (length (rows lists))) (count_writable (length (rows lists)) few) (λ e. absurd (cc)) (count_moves lists)))

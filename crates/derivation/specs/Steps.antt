@@ -1,10 +1,9 @@
 -- What the calls of a derivation ask for, and what they do to it.
-use Rattle.std.specs.Prelude.{◌≡◌, ℕ, ◌≤◌, not, List, [], ◌∷◌, ◌++◌, length, map, IsTrue, ℤ, pos, Some, None, Result, Ok, Err}
+use Rattle.std.specs.Prelude.{◌≡◌, ℕ, ◌+◌, ◌<◌, ◌≤◌, ◌^◌, ◌==◌, not, filter, List, [], ◌∷◌, ◌++◌, length, map, IsTrue, ℤ, pos, Some, None, Result, Ok, Err}
 use Rattle.hrt_base.specs.declared.literal.Lit.{Lit}
 use Rattle.hrt_base.specs.declared.numbered.RowNo.{RowNo}
 use Rattle.pb_rows.specs.Terms.{PlainRow, Written}
 use Rattle.pb_rows.specs.Points.{Point}
-use Rattle.pb_rows.specs.Formula.{NumberedRow, is_numbered}
 use Rattle.rank_tables.specs.Instance.{Lists}
 use Rattle.rank_tables.specs.Numbers.{numbers_to}
 use Rattle.stability_model.specs.Model.{formula, rows}
@@ -12,13 +11,13 @@ use Rattle.proof_lines.specs.declared.line.Claim.{Claim}
 use Rattle.proof_lines.specs.declared.line.Line.{Line}
 use Rattle.proof_lines.specs.declared.line.Line.TheVariants.{Header, Count, Output, Conclusion, End}
 use Rattle.proof_lines.specs.declared.note.Note.{Note}
-use Rattle.proof_lines.specs.declared.note.Note.TheVariants.{Unit as UnitRow, Bound as BoundRow}
+use Rattle.proof_lines.specs.declared.note.Note.TheVariants.{Learn}
 use Rattle.proof_lines.specs.Spelling.{is_small_line, most_bytes}
 use Rattle.proof_lines.specs.Texts.{is_spellable, line_text, note_text}
 use Rattle.proof_rules.specs.Refusals.{Refusal, TooBig}
 use Rattle.proof_rules.specs.States.{Step, first_state, smaller, with_row}
 use Rattle.proof_rules.specs.Valid.{Proving}
-use Rattle.proof_rules.specs.Held.{after_line, after_note, first_held, keeping}
+use Rattle.proof_rules.specs.Held.{Held, after_line, after_note, first_held, keeping}
 use Rattle.derivation.specs.declared.refusal.PolRefusal.{PolRefusal}
 use Rattle.derivation.specs.declared.refusal.PolRefusal.TheVariants.{TooBig as TooBigRow, NoMemory}
 use Rattle.derivation.specs.Derived.{Derived}
@@ -42,23 +41,10 @@ abbrev pub IsTooBig : Result PlainRow Refusal → PolRefusal → Type 0
 IsTooBig answer TooBigRow = answer ≡ Err TooBig
 IsTooBig answer NoMemory = Unit {0}
 
--- a unit or a bound note names a live row
-abbrev pub NamesLiveRow : List NumberedRow → Note → Type 0
-NamesLiveRow live (UnitRow id) = IsTrue (is_numbered id.0 live)
-NamesLiveRow live (BoundRow id) = IsTrue (is_numbered id.0 live)
-NamesLiveRow live note = ⊥
-
--- a unit or a bound note
-abbrev pub NamesARow : Note → Type 0
-NamesARow (UnitRow id) = Unit {0}
-NamesARow (BoundRow id) = Unit {0}
-NamesARow note = ⊥
-
--- the row that a unit or a bound note names, and number 0 for any other note
-abbrev pub row_named : Note → RowNo
-row_named (UnitRow id) = id
-row_named (BoundRow id) = id
-row_named note = record { 0 = 0 }
+-- before a row is learned, fewer than 10^18 were
+abbrev pub CanLearn : Note → Held → Type 0
+CanLearn (Learn id decisions l) held = held.learn_notes < 10 ^ 18
+CanLearn note held = Unit {0}
 
 -- ---- the lines
 
@@ -112,9 +98,25 @@ with_solution v row text d = record d {
 abbrev pub with_note : Note → Derived → Derived
 with_note note d = record d { held = after_note note d.held; pending = d.pending ++ note_text note }
 
--- a row is held from here on, with some text
+-- what a note holds is held, with some text
+abbrev pub with_noted : Note → List ℕ → Derived → Derived
+with_noted note text d = record d { held = after_note note d.held; pending = d.pending ++ text }
+
+-- rows stay held from here on, with some text
+abbrev pub with_all_kept : List ℕ → List ℕ → Derived → Derived
+with_all_kept numbers text d = record d { held = keeping numbers d.held; pending = d.pending ++ text }
+
+-- a row stays held from here on, with some text
 abbrev pub with_kept : ℕ → List ℕ → Derived → Derived
-with_kept n text d = record d { held = keeping (n ∷ []) d.held; pending = d.pending ++ text }
+with_kept n text d = with_all_kept (n ∷ []) text d
+
+-- a learned row is held from here on, with some text
+abbrev pub with_learned : ℕ → List ℕ → Derived → Derived
+with_learned n text d = record d { held = record d.held { learned = d.held.learned ++ n ∷ []; learn_notes = d.held.learn_notes + 1 }; pending = d.pending ++ text }
+
+-- a learned row is held no more, with some text
+abbrev pub without_learned : ℕ → List ℕ → Derived → Derived
+without_learned n text d = record d { held = record d.held { learned = filter (λ k. not (k == n)) d.held.learned }; pending = d.pending ++ text }
 
 -- a call added a note or, where it failed, did nothing
 abbrev pub TriesNote : {A E : Type 0} → Result A E → Note → Derived → Derived → Type 0

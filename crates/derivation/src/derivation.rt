@@ -1,5 +1,5 @@
 // The kernel of the proof writer.
-ghost use Rattle.std.specs.Prelude.{◌≡◌, ◌<◌, ◌≤◌, ◌+◌, ◌^◌, [], length, IfOk, IfErr, IsOk, IsTrue, OnOk, OnErr, None, Some};
+ghost use Rattle.std.specs.Prelude.{◌≡◌, ◌<◌, ◌≤◌, ◌+◌, ◌^◌, [], length, IfOk, IfErr, IsOk, IsTrue, Ok, OnOk, OnErr, None, Some};
 ghost use Rattle.std.specs.List.{All};
 ghost use Rattle.hrt_base.specs.Calls.{Sent, SentPart};
 ghost use Rattle.pb_rows.specs.Terms.{coef_sum};
@@ -13,16 +13,19 @@ ghost use Rattle.proof_lines.specs.Texts.{is_spellable_note, note_text};
 ghost use Rattle.proof_rules.specs.Pol.{pol_row};
 ghost use Rattle.proof_rules.specs.States.{IsInOrder, deleted, live_rows};
 ghost use Rattle.proof_rules.specs.Claims.{Shows};
+ghost use Rattle.proof_rules.specs.Held.{row_numbers};
+ghost use Rattle.proof_rules.specs.Notes.{IsTrueNote};
 ghost use Rattle.derivation.specs.Derived.{IsConcludedValid, StandsFor, StaysSent, StaysValid};
-ghost use Rattle.derivation.specs.Ready.{IsReady};
-ghost use Rattle.derivation.specs.Steps.{IsRowOrTooBig, IsTooBig, IsWritable, NamesLiveRow, Tries, TriesEnd, TriesNote, emptied, first_derived, literals_at, with_kept, with_new_row, with_solution, written_of};
+ghost use Rattle.derivation.specs.Pieces.{StandsTraced, opened};
+ghost use Rattle.derivation.specs.Ready.{IsReady, IsSpare};
+ghost use Rattle.derivation.specs.Steps.{CanLearn, IsRowOrTooBig, IsTooBig, IsWritable, Tries, TriesEnd, TriesNote, emptied, first_derived, literals_at, with_all_kept, with_kept, with_learned, with_new_row, with_noted, with_solution, without_learned, written_of};
 
 use crate::PolRefusal;
+use crate::held::{leave_out_number, push_numbers};
 use crate::lines::{del_line, end_text, note_text, pol_line, rup_line, soli_line, text_of};
-use crate::objective::objective_terms;
 use crate::rows::Rows;
 use crate::start::{first_kept, first_lines, model_rows};
-use crate::steps::{named_row, steps_row};
+use crate::steps::steps_row;
 use hrt_base::{Begun, Failed, Host, NoMemory, Port, RowNo, write_all};
 use pb_rows::Row;
 use proof_lines::{Claim, Line, Note, PolStep};
@@ -41,8 +44,12 @@ pub struct Derivation<'a> {
     next: u64,
     /// The least value logged.
     least: Option<i128>,
-    /// The numbers of the rows that are held.
+    /// The numbers of the rows that stay held.
     kept: Vec<u64>,
+    /// The numbers of the learned rows that are held.
+    learned: Vec<u64>,
+    /// How many rows were learned.
+    learn_notes: u64,
     /// What it was concluded with.
     claim: Option<Claim>,
     /// The bytes that weren't sent yet.
@@ -50,23 +57,23 @@ pub struct Derivation<'a> {
 }
 
 impl<'a> std::marker::Model for Derivation<'a> {
-    ghost use Rattle.std.specs.Prelude.{[]};
     ghost use Rattle.proof_rules.specs.States.{IsInOrder};
     ghost use Rattle.derivation.specs.Derived.{Derived};
 
     ghost Value = { Derived };
 
-    ghost view = { λ d. record { lists = d.inst.now; state = record { live = d.rows; next = d.next; least = d.least }; held = record { kept = d.kept.items; learned = []; learn_notes = 0 }; claim = d.claim; pending = d.pending.items } };
+    ghost view = { λ d. record { lists = d.inst.now; state = record { live = d.rows; next = d.next; least = d.least }; held = record { kept = d.kept.items; learned = d.learned.items; learn_notes = d.learn_notes }; claim = d.claim; pending = d.pending.items } };
 
     ghost invariant = { λ d. IsInOrder (record { live = d.rows; next = d.next; least = d.least }) };
 }
 
 impl<'a> Derivation<'a> {
-    /// Starts a proof: the header and the count of the model's rows are pending.
+    /// Starts a proof: the header and the count of the model's rows are pending. They keep the law of written lines.
     pub fn new(alloc: Global, model: &Model<'a>) -> Result<Derivation<'a>, NoMemory>
         ensures is { IfOk result (λ d. d ≡ first_derived model.now) }
         ensures valid { IfOk result (StandsFor []) }
         ensures ready { IfOk result IsReady }
+        ensures traced { IfOk result (λ d. StandsTraced [] d (opened model.now)) }
     {
         let rows = model_rows(alloc, model)?;
         let kept = first_kept(alloc, model)?;
@@ -77,6 +84,8 @@ impl<'a> Derivation<'a> {
             next: u64::from(model.row_count()) + 1,
             least: None,
             kept,
+            learned: Vec::new(alloc),
+            learn_notes: 0,
             claim: None,
             pending,
         })
@@ -121,6 +130,61 @@ impl<'a> Derivation<'a> {
             return Err(NoMemory);
         }
         Ok(())
+    }
+
+    /// Holds several rows, with some text.
+    fn keep_all(&mut self, ids: &[RowNo], text: &[u8]) -> Result<(), NoMemory>
+        ensures ok { OnOk result (self.new ≡ with_all_kept (row_numbers ids.now) text.now self.old) }
+        ensures err { OnErr result (self.new ≡ self.old) }
+    {
+        let length = self.pending.len();
+        self.pending.extend_from_slice(text)?;
+        if push_numbers(&mut self.kept, ids).is_err() {
+            self.pending.truncate(length);
+            return Err(NoMemory);
+        }
+        Ok(())
+    }
+
+    /// Holds a row as a learned one, with some text.
+    fn learn(&mut self, id: RowNo, text: &[u8]) -> Result<(), NoMemory>
+        requires { self.old.held.learn_notes < 10 ^ 18 }
+        ensures ok { OnOk result (self.new ≡ with_learned id.0 text.now self.old) }
+        ensures err { OnErr result (self.new ≡ self.old) }
+    {
+        let length = self.pending.len();
+        self.pending.extend_from_slice(text)?;
+        if self.learned.push(id.0).is_err() {
+            self.pending.truncate(length);
+            return Err(NoMemory);
+        }
+        self.learn_notes += 1;
+        Ok(())
+    }
+
+    /// Holds a learned row no more, with some text.
+    fn unlearn(&mut self, id: RowNo, text: &[u8]) -> Result<(), NoMemory>
+        ensures ok { OnOk result (self.new ≡ without_learned id.0 text.now self.old) }
+        ensures err { OnErr result (self.new ≡ self.old) }
+    {
+        self.pending.extend_from_slice(text)?;
+        leave_out_number(&mut self.learned, id.0);
+        Ok(())
+    }
+
+    /// Holds what a note says is held after it, with some text.
+    fn hold(&mut self, note: &Note, text: &[u8]) -> Result<(), NoMemory>
+        requires { CanLearn note.now self.old.held }
+        ensures ok { OnOk result (self.new ≡ with_noted note.now text.now self.old) }
+        ensures err { OnErr result (self.new ≡ self.old) }
+    {
+        match note {
+            Note::Unit(id) => self.keep(*id, text),
+            Note::Bound(id) => self.keep(*id, text),
+            Note::Load { rows, .. } => self.keep_all(rows.as_slice(), text),
+            Note::Learn { row, .. } => self.learn(*row, text),
+            Note::Drop(id) => self.unlearn(*id, text),
+        }
     }
 
     /// Logs the value of a solution: its row is live and held.
@@ -194,6 +258,29 @@ impl<'a> Derivation<'a> {
         }
     }
 
+    /// Makes a row that the caller has made already: that the steps leave exactly this row is asked and not tried again.
+    pub fn pol_made(
+        &mut self,
+        alloc: Global,
+        model: &Model,
+        steps: &[PolStep],
+        row: Row,
+    ) -> Result<RowNo, NoMemory>
+        requires same { model.now ≡ self.old.lists }
+        requires open { self.old.claim ≡ None }
+        requires next { self.old.state.next < 10 ^ 18 }
+        requires writable { IsWritable (Line.Pol steps.now) }
+        requires made { pol_row (pair_count self.old.lists) self.old.state.live steps.now ≡ Ok row }
+        ensures id { IfOk result (λ id. id.0 ≡ self.old.state.next) }
+        ensures step { Tries result (Line.Pol steps.now) self.old self.new }
+        ensures valid { StaysValid self.old self.new }
+    {
+        let line = pol_line(alloc, steps)?;
+        let text = text_of(alloc, &line)?;
+        let id = self.add(row, &text)?;
+        Ok(id)
+    }
+
     /// Makes a row that the live rows imply by propagation. That they do is asked of the caller and not checked.
     pub fn rup(&mut self, alloc: Global, model: &Model, row: Row) -> Result<RowNo, NoMemory>
         requires same { model.now ≡ self.old.lists }
@@ -230,7 +317,7 @@ impl<'a> Derivation<'a> {
         ensures step { Tries result (Line.Soli (literals_at (length point.now) (point_of point.now))) self.old self.new }
         ensures valid { StaysValid self.old self.new }
     {
-        let objective = objective_terms(alloc, model)?;
+        let objective = model.objective_terms(alloc)?;
         let value = objective_value(&objective, point);
         let row = improvement_row(alloc, &objective, value)?;
         let line = soli_line(alloc, point)?;
@@ -239,28 +326,33 @@ impl<'a> Derivation<'a> {
         Ok(id)
     }
 
-    /// Adds a unit or a bound note of a live row.
+    /// Adds a note that is true: a unit or a bound note of a live row, an honest load, a learned row that is fresh and live, or
+    /// the drop of a learned row that is held. Fewer than 10^18 rows were learned before one more is.
     pub fn note(&mut self, alloc: Global, model: &Model, note: &Note) -> Result<(), NoMemory>
         requires same { model.now ≡ self.old.lists }
         requires open { self.old.claim ≡ None }
-        requires live { NamesLiveRow self.old.state.live note.now }
+        requires so { IsTrueNote self.old.lists self.old.state.live self.old.held note.now }
+        requires count { CanLearn note.now self.old.held }
         requires made { IsTrue (is_spellable_note note.now) }
         requires short { length (note_text note.now) ≤ most_bytes }
         ensures note { TriesNote result note.now self.old self.new }
         ensures valid { StaysValid self.old self.new }
+        ensures ready { IsReady self.old → IsReady self.new }
     {
         let text = note_text(alloc, note)?;
-        self.keep(named_row(note), &text)?;
+        self.hold(note, &text)?;
         Ok(())
     }
 
-    /// Deletes rows: they are live no more.
+    /// Deletes rows: they are live no more. No row of the model and no held row is among them.
     pub fn forget(&mut self, alloc: Global, ids: &[RowNo]) -> Result<(), NoMemory>
         requires open { self.old.claim ≡ None }
         requires writable { IsWritable (Line.Del ids.now) }
         requires live { IsOk (deleted ids.now self.old.state.live) }
+        requires spare { All (IsSpare self.old) ids.now }
         ensures step { Tries result (Line.Del ids.now) self.old self.new }
         ensures valid { StaysValid self.old self.new }
+        ensures ready { IsReady self.old → IsReady self.new }
     {
         let line = del_line(alloc, ids)?;
         let text = text_of(alloc, &line)?;
@@ -295,6 +387,13 @@ impl<'a> Derivation<'a> {
         ensures in_order { IsInOrder self.now.state }
     {
         self.next
+    }
+
+    /// How many rows were learned.
+    pub fn learned(&self) -> u64
+        ensures { result ≡ self.now.held.learn_notes }
+    {
+        self.learn_notes
     }
 
     /// The bytes that weren't sent yet.

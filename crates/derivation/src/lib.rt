@@ -4,9 +4,9 @@
 
 mod deleted;
 mod derivation;
+mod held;
 mod laws;
 mod lines;
-mod objective;
 mod refusal;
 mod rows;
 mod start;
@@ -16,5 +16,8 @@ mod tests;
 
 pub use deleted::Deleted;
 pub use derivation::Derivation;
-pub use laws::texts_are_fronts;
+pub use laws::{
+    cuts_stay_lawful, ends_are_lawful, fresh_rows_are_open, held_rows_are_loaded,
+    lawful_pieces_stay_lawful, starts_are_lawful, texts_are_fronts,
+};
 pub use refusal::PolRefusal;

@@ -24,7 +24,9 @@ use Rattle.proof_rules.proofs.FarBounds.{free-follows}
 use Rattle.derivation.specs.Derived.{Derived, IsConcludedValid, StandsFor, StaysValid}
 use Rattle.derivation.specs.Steps.{IsWritable, concluded}
 use Rattle.hrt_solve.specs.Gauged.{HasBoundRow, IsGauged, bound_claim, found_claim, value_of}
+use Rattle.hrt_solve.specs.Lawful.{IsLawfulSoFar}
 use Rattle.hrt_solve.specs.Writing.{IsProof}
+use Rattle.hrt_solve.proofs.KeepsLaw.{lawful_proof}
 
 -- ---- it can be written
 
@@ -109,9 +111,10 @@ found_claim_shown lists n size claim id d is gauged least h =
 
 -- ---- the whole text
 
-pub proof_made : (lists : Lists) (n : ℕ) (id : Option RowNo) (claim said : Claim) (first old new : Derived) → said ≡ claim → IsGauged lists n id old → StandsFor [] first → StaysValid first old → new ≡ concluded said old → StaysValid old new →
-    IsConcludedValid old new said → IsProof lists new.pending claim 0
-proof_made lists n id claim said first old new is gauged stands before end after valid = record {
+pub proof_made : (lists : Lists) (n : ℕ) (id : Option RowNo) (claim said : Claim) (first old new : Derived) → said ≡ claim → IsGauged lists n id old → IsLawfulSoFar lists old → IsWritable (Conclusion said) → Shows (formula old.lists) old.state said → StandsFor [] first →
+    StaysValid first old → new ≡ concluded said old → StaysValid old new → IsConcludedValid old new said → IsProof lists new.pending claim 0
+proof_made lists n id claim said first old new is gauged so_far writable shown stands before end after valid = record {
+  lawful = lawful_proof lists said old new gauged.lists_are so_far writable shown end;
   valid = subst (λ (c : Claim). IsValidText (formula lists) new.pending c) is (subst (λ (l : Lists). IsValidText (formula l) new.pending said) gauged.lists_are (valid [] (before [] stands)));
   notes_true = subst (λ (l : Lists). AreTrueNotes l new.pending) (ap (λ (d : Derived). d.lists) end ∙ gauged.lists_are) (after [] (before [] stands)).notes_true;
   learned_are =

@@ -30,6 +30,7 @@ use Rattle.derivation.specs.Steps.{IsWritable, Takes, with_new_row}
 use Rattle.derivation.proofs.Solutions.{sizes_objective}
 use Rattle.proof_rules.proofs.Numbers.{live_within}
 use Rattle.hrt_solve.specs.Gauged.{HasBoundRow, IsGauged, value_of}
+use Rattle.hrt_solve.specs.Lawful.{AddsClosing}
 use Rattle.hrt_solve.specs.Logged.{Closes, larger_row}
 use Rattle.hrt_solve.proofs.LoggedMatching.{bound_front, same_state}
 
@@ -98,6 +99,9 @@ module _ (lists : Lists) (n size : ℕ) (bound larger : RowNo) (old : Derived) (
       state_is : new.state ≡ with_row old.state (add (at_least_row (formula old.lists) (value_of n)) (larger_row old.lists size))
       state_is = same_state new.state (with_row old.state (add (at_least_row (formula old.lists) (value_of n)) (larger_row old.lists size)))
           (sym taken.step.leads ∙ ap (λ (r : Result PlainRow Refusal). and_then r (λ row. Ok (with_row old.state row))) closing_made)
+
+pub closing_adds : (bound larger : RowNo) (old new : Derived) → IsWritable (Pol (closing bound.0 larger.0)) → old.claim ≡ None → Takes (Pol (closing bound.0 larger.0)) old new → AddsClosing (Some bound) larger old new
+closing_adds bound larger old new writable unconcluded taken = inr (record { writable = writable; unconcluded = unconcluded; takes = taken })
 
 -- ---- what it leaves
 

@@ -1,7 +1,9 @@
 -- What a checker's answer says of the proof that was read.
 use Rattle.std.proofs.Common.{◌≡◌, ℕ, List, [], Result, Ok, Err, IfErr, IfOk, refl, sym, ap, ◌∙◌, subst}
 use Rattle.std.specs.Result.{IsErrAnd}
+use Rattle.hrt_base.specs.declared.port.Port.TheVariants.{Proof}
 use Rattle.hrt_base.specs.World.{World}
+use Rattle.hrt_base.proofs.Pieces.{taken_so_far}
 use Rattle.pb_rows.specs.Formula.{Formula}
 use Rattle.rank_tables.specs.Instance.{Lists}
 use Rattle.stability_model.specs.Model.{formula}
@@ -34,7 +36,7 @@ stopped told f bytes (NotASolution n k) old new read judges = record { verdict =
 stopped told f bytes (BoundNotShown n) old new read judges = record { verdict = _; is = refl; judged = judged_as told f bytes _ old new read judges.holds }
 stopped told f bytes (WrongCount n) old new read judges = record { verdict = _; is = refl; judged = judged_as told f bytes _ old new read judges.holds }
 stopped told f bytes Truncated old new read judges = record { verdict = _; is = refl; judged = judged_as told f bytes _ old new read judges.holds }
-stopped told f bytes NoMemory old new read judges = record { part = (bytes, read.short, read.taken) }
+stopped told f bytes NoMemory old new read judges = record { part = (bytes, read.short, taken_so_far told Proof bytes old new read.taken) }
 
 -- the checker judges the bytes that it was fed, over its formula
 pub judges : (told : Type 0) (f : Formula) (before now : Checked) (answer : Result Claim ProofRefusal) (old new : World) → before ≡ record { formula = f; bytes = []; phase = Reading }

@@ -6,4 +6,5 @@ mod Claiming
 mod Points
 mod LoggedMatching
 mod ClosingLine
+mod KeepsLaw
 mod QuickEnd

@@ -15,7 +15,7 @@ use Rattle.proof_rules.specs.States.{IsInOrder, State, after, if_hold, is_full, 
 use Rattle.proof_rules.specs.Held.{keeping}
 use Rattle.proof_rules.proofs.Made.{made_hold, made_if, made_known}
 use Rattle.derivation.specs.Derived.{Derived}
-use Rattle.derivation.specs.Steps.{Takes, literals_at}
+use Rattle.derivation.specs.Steps.{IsWritable, Takes, literals_at}
 use Rattle.derivation.proofs.Readiness.{row_front, row_last}
 use Rattle.derivation.proofs.Solutions.{value_same}
 use Rattle.hrt_solve.specs.Gauged.{HasBoundRow, IsGauged, value_of}
@@ -33,11 +33,12 @@ after_logged f s t ls e =
     sym (same_state (logged f s (value_at (named_point ls) f.objective)) t (made_hold (named_point ls) 1 f.rows made t full.1).1)
 
 pub logs : (size n : ℕ) (p : Point) (id : RowNo) (old new : Derived) → n ≡ pair_count old.lists → value_at p (objective old.lists) ≡ value_of size → id.0 ≡ old.state.next →
-    Takes (Soli (literals_at n p)) old new → Logs size id old new
-logs size n p id old new count value number taken = record {
+    IsWritable (Soli (literals_at n p)) → old.claim ≡ None → Takes (Soli (literals_at n p)) old new → Logs size id old new
+logs size n p id old new count value number writable unconcluded taken = record {
   number = number;
   text = line_text (Soli (literals_at n p));
   is = taken.is ∙ ap (λ (s : State). record old { state = s; held = keeping (old.state.next ∷ []) old.held; pending = old.pending ++ line_text (Soli (literals_at n p)) }) state_is;
+  adds = (literals_at n p, record { writable = writable; unconcluded = unconcluded; takes = taken });
 }
   where
     value_is : value_at (named_point (literals_at n p)) (objective old.lists) ≡ value_of size

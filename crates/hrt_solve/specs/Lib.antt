@@ -1,4 +1,5 @@
 pub mod Judged
 pub mod Gauged
 pub mod Logged
+pub mod Lawful
 pub mod Writing

@@ -1,5 +1,5 @@
 -- What writing a model and a proof of it does to a host.
-use Rattle.std.specs.Prelude.{◌≡◌, ◌≤◌, ◌⊎◌, ◌==◌, ℕ, List, length, IsTrue}
+use Rattle.std.specs.Prelude.{◌≡◌, ◌⊎◌, ◌==◌, ℕ, List, length, IsTrue}
 use Rattle.hrt_base.specs.declared.port.Port.{Port}
 use Rattle.hrt_base.specs.declared.port.Port.TheVariants.{Model as ModelPort, Proof as ProofPort}
 use Rattle.hrt_base.specs.declared.host.Begun.TheVariants.{Idle}
@@ -13,6 +13,7 @@ use Rattle.opb_text.specs.Spelling.{model_text}
 use Rattle.proof_lines.specs.declared.line.Claim.{Claim}
 use Rattle.proof_rules.specs.Texts.{IsValidText}
 use Rattle.proof_rules.specs.Told.{AreTrueNotes, held_by}
+use Rattle.derivation.specs.Traces.{IsLawfulProof}
 use Rattle.promotion_heuristic.specs.Promotion.{promotion}
 use Rattle.hrt_solve.specs.declared.ends.BoundEnd.{BoundEnd}
 use Rattle.hrt_solve.specs.declared.ends.SolveEnd.{SolveEnd}
@@ -20,8 +21,8 @@ use Rattle.hrt_solve.specs.Gauged.{AreNumbersOf, IsMost, bound_claim, found_clai
 
 -- a text was written on a port, which was then sealed
 pub record SentWhole (told : Type 0) (port : Port) (text : List ℕ) (old new : World) : Type 0 where
-  pub later : old.write_faults ≤ new.write_faults
   pub read_faults : new.read_faults ≡ old.read_faults
+  pub write_faults : new.write_faults ≡ old.write_faults
   pub begun : new.begun ≡ put port Idle old.begun
   pub content : told → new.content ≡ sealed port (appended port text old.content)
 
@@ -43,10 +44,12 @@ SentInPart told lists text old new = SentFront told ModelPort (model_text lists)
 
 -- ---- proofs
 
--- the text is a valid proof of the model with this claim, its notes are true, and it says of so many rows that they were learned
+-- The text is a valid proof of the model with this claim. Its notes are true, its lines keep the law of a written proof, and it says of
+-- so many rows that they were learned.
 pub record IsProof (lists : Lists) (text : List ℕ) (claim : Claim) (learned : ℕ) : Type 0 where
   pub valid : IsValidText (formula lists) text claim
   pub notes_true : AreTrueNotes lists text
+  pub lawful : IsLawfulProof lists text
   pub learned_are : (held_by lists text).learn_notes ≡ learned
 
 -- the model was written, and a proof of it

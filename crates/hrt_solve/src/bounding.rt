@@ -1,10 +1,11 @@
 // The upper bound: pairs are deleted, and the ceiling of those that are left is derived.
-ghost use Rattle.std.specs.Prelude.{◌≡◌, ◌<◌, ◌^◌, IfOk, IsErrOf, OnErr, OnOk, None};
+ghost use Rattle.std.specs.Prelude.{◌≡◌, ◌<◌, ◌^◌, [], IfOk, IsErrOf, OnErr, OnOk, None};
 ghost use Rattle.hrt_base.specs.Calls.{Rose};
-ghost use Rattle.derivation.specs.Derived.{StaysValid};
+ghost use Rattle.derivation.specs.Derived.{StandsFor, StaysValid};
 ghost use Rattle.derivation.specs.Ready.{IsReady};
 ghost use Rattle.derivation.specs.Steps.{first_derived};
 ghost use Rattle.hrt_solve.specs.Gauged.{AreNumbersOf, IsGauged, IsMost, bound_claim};
+ghost use Rattle.hrt_solve.specs.Lawful.{IsLawfulWith};
 ghost use Rattle.hrt_solve.specs.Writing.{IsBoundText, IsBounded, IsProof, StopsWriting};
 
 use crate::BoundEnd;
@@ -36,9 +37,11 @@ pub(crate) fn gauge(
     requires model { model.now ≡ inst.now }
     requires first { deriv.old ≡ first_derived inst.now }
     requires ready { IsReady deriv.old }
+    requires stands { StandsFor [] deriv.old }
     ensures numbers { IfOk result (λ gauged. AreNumbersOf inst.now gauged.end.deleted gauged.end.ceiling) }
     ensures most { IfOk result (λ gauged. IsMost inst.now gauged.end.ceiling) }
     ensures gauged { IfOk result (λ gauged. IsGauged inst.now gauged.end.ceiling gauged.row deriv.new) }
+    ensures lawful { IfOk result (λ gauged. IsLawfulWith inst.now gauged.row deriv.new) }
     ensures least { OnOk result (deriv.new.state.least ≡ None) }
     ensures next { OnOk result (deriv.new.state.next < 10 ^ 17) }
     ensures valid { OnOk result (StaysValid deriv.old deriv.new) }

@@ -3,6 +3,7 @@ ghost use Rattle.std.specs.Prelude.{◌≡◌, ◌<◌, ◌^◌, OnOk, None, Som
 ghost use Rattle.pb_rows.specs.Formula.{row_of};
 ghost use Rattle.derivation.specs.Derived.{StaysValid};
 ghost use Rattle.hrt_solve.specs.Gauged.{HasBoundRow};
+ghost use Rattle.hrt_solve.specs.Lawful.{AddsClosing};
 ghost use Rattle.hrt_solve.specs.Logged.{Closes, larger_row};
 
 use crate::bounding::Gauged;
@@ -27,6 +28,7 @@ pub(crate) fn close(
     requires bound { HasBoundRow deriv.old.lists gauged.end.ceiling gauged.row deriv.old }
     requires larger { row_of larger.0 deriv.old.state.live ≡ Some (larger_row deriv.old.lists size) }
     ensures closed { OnOk result (Closes deriv.old.lists gauged.end.ceiling size gauged.row deriv.old deriv.new) }
+    ensures adds { OnOk result (AddsClosing gauged.row larger deriv.old deriv.new) }
     ensures valid { StaysValid deriv.old deriv.new }
 {
     let Some(bound) = gauged.row else {

@@ -1,0 +1,2 @@
+mod WorkedBounds
+mod WorkedLaws

@@ -1,29 +1,40 @@
 -- One pair is deleted.
-use Rattle.std.proofs.Common.{◌≡◌, ℕ, ◌+◌, ◌-◌, ◌≤◌, true, false, ◌==◌, List, [], ◌∷◌, ◌++◌, append_assoc, length, get_or, refl, sym, ap, ◌∙◌, subst, inl, inr, arith}
-use Rattle.std.specs.Prelude.{Some, slice_get, slice_set}
-use Rattle.std.proofs.lemmas.Bool.{eqb-true, or_cases}
+use Rattle.std.proofs.Common.{◌≡◌, ℕ, ◌+◌, ◌-◌, ◌≤◌, Bool, true, false, ◌||◌, ◌==◌, List, [], ◌∷◌, ◌++◌, append_assoc, length, get_or, refl, sym, ap, ◌∙◌, subst, inl, inr, arith}
+use Rattle.std.specs.Prelude.{Option, None, Some, is_some, slice_get, slice_set}
+use Rattle.std.proofs.lemmas.Bool.{cases_eq, eq-eqb, eqb-true, false_from_ne_true, or_cases, or_left, or_right}
 use Rattle.std.proofs.lemmas.Option.{slice_get-get_or}
+use Rattle.hrt_base.specs.declared.numbered.RowNo.{RowNo}
 use Rattle.pb_rows.specs.Terms.{PlainRow}
 use Rattle.pb_rows.specs.Formula.{is_numbered, row_of}
 use Rattle.rank_tables.specs.Numbers.{is_in}
 use Rattle.rank_tables.specs.Instance.{Lists}
+use Rattle.rank_tables.specs.Tables.{IsPairNo}
+use Rattle.stability_model.specs.Gone.{Gone}
 use Rattle.stability_model.specs.Model.{rows}
+use Rattle.stability_model.proofs.GoneSteps.{gone_step}
 use Rattle.proof_lines.specs.declared.line.Line.TheVariants.{Rup}
 use Rattle.proof_lines.specs.declared.note.Note.TheVariants.{Unit as UnitRow}
 use Rattle.proof_lines.specs.Spelling.{row_no}
 use Rattle.proof_lines.specs.Texts.{line_text, note_text}
 use Rattle.proof_rules.specs.Held.{Held, is_held, keeping}
 use Rattle.proof_rules.specs.States.{IsInOrder}
-use Rattle.proof_rules.proofs.Held.{is_held-keeping}
-use Rattle.derivation.specs.Deletions.{Deletions, unit_row}
+use Rattle.proof_rules.proofs.Held.{is_held-keeping, is_in-append}
+use Rattle.derivation.specs.Deletions.{Deletions, is_deleted, unit_row, unit_row_no}
 use Rattle.derivation.specs.Derived.{Derived, StaysValid}
+use Rattle.derivation.specs.Pieces.{ALine, ANote, Piece, traced}
 use Rattle.derivation.specs.Ready.{IsReady}
 use Rattle.derivation.specs.Steps.{written_of}
-use Rattle.derivation.proofs.Readiness.{row_last, row_numbered}
-use Rattle.pair_reduction.specs.Reduced.{Deletes, GoesOn, KeepsLive, with_unit, with_unit_row}
-use Rattle.pair_reduction.specs.Added.{AddsNotes, LeavesOnly, unit_notes}
-use Rattle.pair_reduction.proofs.Added.{adds_further, adds_line, adds_note, only_row}
+use Rattle.derivation.specs.Traces.{Trace, variables_of}
+use Rattle.derivation.proofs.NoneDeleted.{model_below, none_deleted}
+use Rattle.derivation.proofs.Readiness.{ready_row, row_last, row_numbered}
+use Rattle.pair_reduction.specs.Reduced.{AddsUnit, CanReduce, Deletes, GoesOn, KeepsLive, with_unit, with_unit_row}
+use Rattle.pair_reduction.specs.Added.{AddsNotes, LeavesOnly, TellsUnits, unit_notes}
+use Rattle.pair_reduction.specs.declared.sides.Side.{Side}
+use Rattle.pair_reduction.specs.Sides.{is_free, is_passed, other}
+use Rattle.pair_reduction.proofs.Added.{only_row}
 use Rattle.pair_reduction.proofs.GoingOn.{kept_numbered, kept_row}
+use Rattle.pair_reduction.proofs.Reducing.{absent_from, marked_here, marked_other}
+use Rattle.pair_reduction.proofs.TwoSides.{rule_shown}
 
 -- ---- ready again
 
@@ -70,17 +81,67 @@ unit_there p old new e order = ap (λ (d : Derived). row_of old.state.next d.sta
 unit_only : (p : ℕ) (old new : Derived) → new ≡ with_unit p old → LeavesOnly (old.state.next ∷ []) old new
 unit_only p old new e n live out = only_row (unit_row p) (line_text (Rup (written_of (unit_row p)))) old.state.next old (with_unit_row p old) refl refl n (ap (λ (d : Derived). is_numbered n d.state.live) (sym e) ∙ live) out
 
-unit_adds : (p : ℕ) (old new : Derived) → new ≡ with_unit p old → AddsNotes (unit_notes (old.state.next ∷ [])) old new
-unit_adds p old new e =
-    adds_further [] (unit_notes (old.state.next ∷ [])) old (with_unit_row p old) new (adds_line (Rup (written_of (unit_row p))) old (with_unit_row p old) refl)
-    (adds_note (UnitRow (row_no old.state.next)) (with_unit_row p old) new (ap (λ (d : Derived). d.pending) e))
+-- ---- the law
+
+or_rest : (b c : Bool) → c ≡ false → (b || c) ≡ b
+or_rest true c e = refl
+or_rest false c e = e
+
+-- the pair is told of too
+unit_told :
+    (p : ℕ) (old : Derived) (before after : Deletions) (t : Trace) → IsInOrder old.state → 1 ≤ p → p ≤ length before → after ≡ slice_set before (p - 1) (Some (row_no old.state.next)) → TellsUnits before t →
+    (q : ℕ) → is_in q (t.units ++ variables_of (row_of old.state.next (with_unit_row p old).state.live)) ≡ is_deleted after q
+unit_told p old before after t order first last marked tells q =
+    let id : RowNo = row_no old.state.next in
+    let now : (is_deleted before q || is_in q (p ∷ [])) ≡ is_deleted after q = elim (cases_eq q p) [
+      | inl e ↦
+          let here : is_deleted after q ≡ true = ap (λ (m : Deletions). is_deleted m q) marked ∙ ap (is_deleted (slice_set before (p - 1) (Some id))) e ∙ ap is_some (marked_here before p id first last) in
+          or_right (is_deleted before q) (is_in q (p ∷ [])) (or_left (p == q) false (eq-eqb p q (sym e))) ∙ sym here
+      | inr other ↦
+          let there : is_deleted after q ≡ is_deleted before q = ap (λ (m : Deletions). is_deleted m q) marked ∙ ap is_some (marked_other before p id first last q other) in
+          or_rest (is_deleted before q) (is_in q (p ∷ [])) (false_from_ne_true (is_in q (p ∷ [])) (λ h. other (one_in q p h))) ∙ sym there
+    ] in
+    ap (λ (o : Option PlainRow). is_in q (t.units ++ variables_of o)) (row_last old.state.next (unit_row p) old.state.live order)
+    ∙ is_in-append q t.units (p ∷ []) ∙ ap (λ (b : Bool). b || is_in q (p ∷ [])) (tells.units q) ∙ now
+
+-- both keep the law, where the pair is gone and wasn't deleted before
+unit_adds : (p : ℕ) (old new : Derived) (before after : Deletions) → IsReady old → IsInOrder old.state → Gone old.lists p → 1 ≤ p → p ≤ length before → unit_row_no before p ≡ None → after ≡ slice_set before (p - 1) (Some (row_no old.state.next)) → AddsUnit p old new →
+    AddsNotes before after (unit_notes (old.state.next ∷ [])) old new
+unit_adds p old new before after ready order gone first last absent marked adds = record {
+  pieces = ALine (Rup (written_of (unit_row p))) ∷ ANote (UnitRow (row_no old.state.next)) ∷ [];
+  lawful = λ t tells.
+      let mid : Derived = with_unit_row p old in
+      let ready_mid : IsReady mid = ready_row (unit_row p) (line_text (Rup (written_of (unit_row p)))) old ready in
+      let line : Piece = ALine (Rup (written_of (unit_row p))) in
+      let note : Piece = ANote (UnitRow (row_no old.state.next)) in
+      let fresh : is_in p t.units ≡ false = tells.units p ∙ ap is_some absent in (
+        traced note mid new (traced line old mid t),
+        (
+          mid,
+          adds.line,
+          (none_deleted old ready, tells.since),
+          (new, adds.note, (none_deleted mid ready_mid, (model_below old ready order, record { pair = p; gone = gone; new = fresh; row = row_last old.state.next (unit_row p) old.state.live order })), (refl, refl)),
+        ),
+        record { since = tells.since; units = unit_told p old before after t order first last marked tells },
+      );
+  are = refl;
+}
 
 -- a pair by its line and its note alone
-pub deletes_unit : (p : ℕ) (old new : Derived) (before after : Deletions) → IsReady old → IsInOrder old.state → new ≡ with_unit p old → StaysValid old new → after ≡ slice_set before (p - 1) (Some (row_no old.state.next)) → Deletes old new before after p
-deletes_unit p old new before after ready order e valid marked =
+pub deletes_unit : (p : ℕ) (old new : Derived) (before after : Deletions) → IsReady old → IsInOrder old.state → Gone old.lists p → 1 ≤ p → p ≤ length before → unit_row_no before p ≡ None → AddsUnit p old new → new ≡ with_unit p old → StaysValid old new →
+    after ≡ slice_set before (p - 1) (Some (row_no old.state.next)) → Deletes old new before after p
+deletes_unit p old new before after ready order gone first last absent adds e valid marked =
     let goes = unit_goes p old new e valid in
     let kept = unit_kept p old new e in
     let held : new.held ≡ keeping (old.state.next ∷ []) old.held = ap (λ (d : Derived). d.held) e in
     let row = unit_there p old new e order in
     let next : new.state.next ≡ old.state.next + 1 = ap (λ (d : Derived). d.state.next) e in
-    record { id = old.state.next; later = (omega arith, omega arith); goes_on = goes; kept = kept; ready = ready_again old new old.state.next (unit_row p) ready goes kept held row; held = held; notes = unit_adds p old new e; only = unit_only p old new e; marked = marked; row = row }
+    record { id = old.state.next; later = (omega arith, omega arith); goes_on = goes; kept = kept; ready = ready_again old new old.state.next (unit_row p) ready goes kept held row; held = held; notes = unit_adds p old new before after ready order gone first last absent marked adds; only = unit_only p old new e; marked = marked; row = row }
+
+-- a pair that the rule of a side shows
+pub deletes_by_rule :
+    (side : Side) (lists : Lists) (old new : Derived) (before after : Deletions) (p : ℕ) → CanReduce lists old before → IsPairNo lists p → is_deleted before p ≡ false → is_passed side lists (is_free (other side) lists (is_deleted before)) p ≡ true → IsInOrder old.state →
+    AddsUnit p old new → new ≡ with_unit p old → StaysValid old new → after ≡ slice_set before (p - 1) (Some (row_no old.state.next)) → Deletes old new before after p
+deletes_by_rule side lists old new before after p can p_is absent rule order adds e valid marked =
+    let gone : Gone lists p = gone_step lists (is_deleted before) p (λ k h. can.gone k h) p_is (rule_shown side lists (is_deleted before) p rule) in
+    deletes_unit p old new before after can.ready order (subst (λ (l : Lists). Gone l p) can.same gone) p_is.0 (omega (arith, can.pairs, p_is.1)) (absent_from (unit_row_no before p) absent) adds e valid marked

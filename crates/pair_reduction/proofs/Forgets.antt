@@ -17,9 +17,10 @@ use Rattle.proof_rules.specs.Held.{row_numbers}
 use Rattle.proof_rules.specs.States.{IsInOrder, State, deleted}
 use Rattle.proof_rules.proofs.HeldLive.{numbered-without}
 use Rattle.derivation.specs.Derived.{Derived, StaysValid}
+use Rattle.derivation.specs.Ready.{IsReady}
 use Rattle.derivation.specs.Steps.{IsWritable, Takes}
 use Rattle.pair_reduction.specs.Reduced.{CanForget, Forgets}
-use Rattle.pair_reduction.proofs.Added.{adds_line, adds_nothing}
+use Rattle.pair_reduction.proofs.Added.{adds_del, adds_nothing}
 use Rattle.pair_reduction.proofs.GoingOn.{goes_nowhere, numbered_row}
 use Rattle.proof_rules.proofs.Numbers.{live_within}
 
@@ -158,19 +159,19 @@ forgets_none ids old new none same = subst (Forgets ids old) (sym same) (record 
   goes_on = goes_nowhere old;
   held = refl;
   next = refl;
-  notes = adds_nothing old;
+  notes = λ deletions. adds_nothing deletions old;
   others = λ n i. refl;
   only = λ n i. (i, in_none n ids none);
 })
 
-pub forgets_all : (ids : List RowNo) (old new : Derived) → CanForget ids old → Takes (Del ids) old new → StaysValid old new → Forgets ids old new
-forgets_all ids old new can taken valid =
+pub forgets_all : (ids : List RowNo) (old new : Derived) → IsReady old → CanForget ids old → IsWritable (Del ids) → Takes (Del ids) old new → StaysValid old new → Forgets ids old new
+forgets_all ids old new ready can writable taken valid =
     let f = forgot ids old new can taken in
     record {
       goes_on = record { more = (line_text (Del ids), f.pending); later = omega (arith, f.next); lists = f.lists; claim = f.claim; least = f.least; valid = valid };
       held = f.held;
       next = f.next;
-      notes = adds_line (Del ids) old new f.pending;
+      notes = λ deletions. adds_del deletions ids old new ready (record { writable = writable; unconcluded = ready.unconcluded; takes = taken });
       others = f.others;
       only = f.only;
     }

@@ -29,6 +29,7 @@ use Rattle.proof_rules.specs.Pol.{pol_row}
 use Rattle.proof_rules.specs.States.{IsInOrder, State, with_row}
 use Rattle.derivation.specs.Deletions.{AreUnitRows, Deletions, is_deleted}
 use Rattle.derivation.specs.Derived.{Derived}
+use Rattle.derivation.specs.Pieces.{TakesLine}
 use Rattle.derivation.specs.Ready.{IsReady}
 use Rattle.derivation.specs.Steps.{IsWritable, Takes, with_new_row}
 use Rattle.pair_reduction.specs.Offers.{before_steps, is_before, offer_row, offer_steps, row_steps}
@@ -126,15 +127,19 @@ module _ (lists : Lists) (formed : IsWellFormed lists) (q : ℕ) (q_is : IsPairN
   pub made_here : pol_row (pair_count d.lists) d.state.live steps ≡ Ok (offer_row lists q)
   made_here =
       ap₂ (λ (l : Lists) (s : List PolStep). pol_row (pair_count l) d.state.live s) (sym same) are
-      ∙ offer_made lists formed q q_is posts most most_posts few d.state.live deletions units only pair_live hospital_no hospital_live numbered line_writable.small
+      ∙ offer_made lists formed q q_is most most_posts few d.state.live deletions units only pair_live hospital_no hospital_live numbered line_writable.small
 
   pub offer_done : (new : Derived) → Takes (Pol steps) d new → new ≡ with_new_row (offer_row lists q) (line_text (Pol (offer_steps lists deletions q))) d
   offer_done new taken = taken_row steps d new (offer_row lists q) made_here taken ∙ ap (λ (s : List PolStep). with_new_row (offer_row lists q) (line_text (Pol s)) d) are
+
+  pub offer_takes : (new : Derived) → Takes (Pol steps) d new → TakesLine (Pol (offer_steps lists deletions q)) d new
+  offer_takes new taken = subst (λ (s : List PolStep). TakesLine (Pol s) d new) are (record { writable = offer_writable; unconcluded = ready.unconcluded; takes = taken })
 
 pub record MakesOffer (lists : Lists) (q : ℕ) (d : Derived) (deletions : Deletions) (steps : List PolStep) : Type 0 where
   pub writable : IsWritable (Pol steps)
   pub made : IsOk (pol_row (pair_count d.lists) d.state.live steps)
   pub done : (new : Derived) → Takes (Pol steps) d new → new ≡ with_new_row (offer_row lists q) (line_text (Pol (offer_steps lists deletions q))) d
+  pub takes : (new : Derived) → Takes (Pol steps) d new → TakesLine (Pol (offer_steps lists deletions q)) d new
 
 pub makes_offer : (lists : Lists) (q : ℕ) (d : Derived) (deletions : Deletions) (steps : List PolStep) (k : ℕ) → Limits lists q → IsPairNo lists q → lists ≡ d.lists → IsReady d → IsInOrder d.state → d.state.next < 10 ^ 18 → AreUnitRows d.state.live deletions →
     has_only lists (is_deleted deletions) q ≡ true → 0 < capacity_of lists (pair_at lists q).hospital → capacity_of lists (pair_at lists q).hospital ≤ length (rising_pairs_of_hospital lists (pair_at lists q).hospital) →
@@ -145,4 +150,5 @@ makes_offer lists q d deletions steps k limits q_is same ready order next units 
       writable = offer_writable lists limits.formed q q_is d same ready order next deletions units only posts few limits.most limits.most_posts limits.declared pair_is steps are;
       made = ap (λ (r : Result PlainRow Refusal). is_ok r) (made_here lists limits.formed q q_is d same ready order next deletions units only posts few limits.most limits.most_posts limits.declared pair_is steps are);
       done = offer_done lists limits.formed q q_is d same ready order next deletions units only posts few limits.most limits.most_posts limits.declared pair_is steps are;
+      takes = offer_takes lists limits.formed q q_is d same ready order next deletions units only posts few limits.most limits.most_posts limits.declared pair_is steps are;
     }

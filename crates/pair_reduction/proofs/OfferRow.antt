@@ -1,10 +1,10 @@
 -- The line of an offer makes its row.
-use Rattle.std.proofs.Common.{◌≡◌, ◌<◌, ℕ, suc, ◌+◌, ◌-◌, ◌≤◌, Bool, true, false, not, ◌&&◌, ◌||◌, ◌==◌, List, [], ◌∷◌, ◌++◌, nat_lt, nat_le, if◌then◌else◌, length, ℤ, pos, negsuc, ◌+ℤ◌, refl, sym, ap, ap₂, ◌∙◌, subst, arith}
+use Rattle.std.proofs.Common.{◌≡◌, ℕ, suc, ◌+◌, ◌-◌, ◌≤◌, Bool, true, false, not, ◌&&◌, ◌||◌, ◌==◌, List, [], ◌∷◌, ◌++◌, nat_lt, nat_le, if◌then◌else◌, length, ℤ, pos, negsuc, ◌+ℤ◌, refl, sym, ap, ap₂, ◌∙◌, subst, arith}
 use Rattle.std.specs.Prelude.{flat_map, Option, Some, None, Result, Ok, Err, is_some, IfSome}
 use Rattle.std.specs.List.{list_all}
 use Rattle.std.specs.Int.RustNames.{unsigned_abs}
 use Rattle.std.proofs.lemmas.Int.{ints}
-use Rattle.std.proofs.lemmas.Bool.{and_from, and_parts, eq-eqb, eqb-true, leb-true, lt-ltb, true≢false, not-true, le-ltb}
+use Rattle.std.proofs.lemmas.Bool.{and_from, and_parts, eq-eqb, eqb-true, leb-true, true≢false, not-true, le-ltb}
 use Rattle.std.proofs.lemmas.List.Sums.{length-filter}
 use Rattle.std.proofs.lemmas.Bool.Decides.{nat_tests}
 use Rattle.hrt_base.specs.declared.numbered.RowNo.{RowNo}
@@ -19,7 +19,6 @@ use Rattle.rank_tables.specs.Tables.{IsPairNo}
 use Rattle.rank_tables.specs.WellFormed.{IsWellFormed}
 use Rattle.rank_tables.proofs.Numbers.{distinct-filter, distinct-numbers_to, is_in-filter, all_at}
 use Rattle.rank_tables.proofs.Unique.{pairs-apart}
-use Rattle.rank_tables.specs.Terms.{has_post, is_as_good_for_hospital, is_as_good_for_resident}
 use Rattle.stability_model.specs.Model.{hospital_row, hospital_row_no, pair_row, pair_row_no, stability_coef}
 use Rattle.stability_model.specs.Gone.{has_only}
 use Rattle.stability_model.proofs.CoefRows.{at_most-row, coefs_over, minus_one, none_negative, pair_coefs, pair_row-coefs}
@@ -35,21 +34,20 @@ use Rattle.pair_reduction.proofs.AtMost.{counted_below}
 use Rattle.pair_reduction.proofs.OfferRun.{AreSmall, Clears, all_run, cleared, cleared-is, id_run, pushed, small_fits, small_minus}
 use Rattle.pair_reduction.proofs.RuleB.{offer_coefs, offer_row-coefs}
 
--- its hospital has a post; a pair or not, q itself, of its resident and as high there, of its hospital and as high there
-final : (o b e r a h l : Bool) (c : ℕ) → o ≡ true → (e ≡ true → h ≡ true) → (b ≡ true → r ≡ true → h ≡ true → e ≡ true) →
-    (if (b && r) && (not e && a) then pos 0 else (if b then pos (if e then c + 1 else if r && a then c else if o && (h && l) then 1 else 0) else pos 0)) +ℤ (if b && h then negsuc 0 else pos 0)
+-- a pair or not, q itself, of its resident and as high there, of its hospital and as high there
+final : (b e r a h l : Bool) (c : ℕ) → (e ≡ true → h ≡ true) → (b ≡ true → r ≡ true → h ≡ true → e ≡ true) →
+    (if (b && r) && (not e && a) then pos 0 else (if b then pos (if e then c + 1 else if r && a then c else if h && l then 1 else 0) else pos 0)) +ℤ (if b && h then negsuc 0 else pos 0)
     ≡ (if b then (if e then pos c else (if h && not l then negsuc 0 else pos 0)) else pos 0)
-final false b e r a h l c p x y = absurd (true≢false (sym p))
-final true false e r a h l c p x y = refl
-final true true true true a true l c p x y = omega (arith, ints)
-final true true true false a true l c p x y = omega (arith, ints)
-final true true true r a false l c p x y = absurd (true≢false (sym (x refl)))
-final true true false true a true l c p x y = absurd (true≢false (sym (y refl refl refl)))
-final true true false true true false l c p x y = refl
-final true true false true false false l c p x y = refl
-final true true false false a true true c p x y = refl
-final true true false false a true false c p x y = refl
-final true true false false a false l c p x y = refl
+final false e r a h l c x y = refl
+final true true true a true l c x y = omega (arith, ints)
+final true true false a true l c x y = omega (arith, ints)
+final true true r a false l c x y = absurd (true≢false (sym (x refl)))
+final true false true a true l c x y = absurd (true≢false (sym (y refl refl refl)))
+final true false true true false l c x y = refl
+final true false true false false l c x y = refl
+final true false false a true true c x y = refl
+final true false false a true false c x y = refl
+final true false false a false l c x y = refl
 
 lower_is : (x y : ℕ) → nat_lt x y ≡ not (nat_le y x)
 lower_is x y = grind (arith, nat_tests)
@@ -69,7 +67,7 @@ offer_size true true l c h = omega arith
 offer_size true false true c h = omega arith
 offer_size true false false c h = omega arith
 
-module _ (lists : Lists) (formed : IsWellFormed lists) (q : ℕ) (q_is : IsPairNo lists q) (posts : 0 < capacity_of lists (pair_at lists q).hospital) where
+module _ (lists : Lists) (formed : IsWellFormed lists) (q : ℕ) (q_is : IsPairNo lists q) where
   -- what is left of the pair's row
   abbrev pub left_coefs : ℕ → ℤ
   left_coefs = cleared (is_before lists q) (pairs_of_resident lists (pair_at lists q).resident) (pair_coefs lists q)
@@ -90,8 +88,8 @@ module _ (lists : Lists) (formed : IsWellFormed lists) (q : ℕ) (q_is : IsPairN
       (cleared-is (is_before lists q) (pairs_of_resident lists (pair_at lists q).resident) (pair_coefs lists q) v
       ∙ ap (λ (b : Bool). if b && is_before lists q v then pos 0 else pair_coefs lists q v) (is_in-filter (λ p. (pair_at lists p).resident == (pair_at lists q).resident) v (numbers_to (pair_count lists))))
       (ap (λ (b : Bool). if b then negsuc 0 else pos 0) (is_in-filter (λ p. (pair_at lists p).hospital == (pair_at lists q).hospital) v (numbers_to (pair_count lists))))
-      ∙ final (has_post lists q) (is_pair lists v) (v == q) ((pair_at lists v).resident == (pair_at lists q).resident) (nat_le (rank_by_resident lists v) (rank_by_resident lists q)) ((pair_at lists v).hospital == (pair_at lists q).hospital)
-      (nat_le (rank_by_hospital lists v) (rank_by_hospital lists q)) (capacity_of lists (pair_at lists q).hospital) (lt-ltb 0 (capacity_of lists (pair_at lists q).hospital) posts) (itself v) (apart v)
+      ∙ final (is_pair lists v) (v == q) ((pair_at lists v).resident == (pair_at lists q).resident) (nat_le (rank_by_resident lists v) (rank_by_resident lists q)) ((pair_at lists v).hospital == (pair_at lists q).hospital)
+      (nat_le (rank_by_hospital lists v) (rank_by_hospital lists q)) (capacity_of lists (pair_at lists q).hospital) (itself v) (apart v)
       ∙ ap (λ (b : Bool). if is_pair lists v then (if v == q then pos (capacity_of lists (pair_at lists q).hospital) else (if ((pair_at lists v).hospital == (pair_at lists q).hospital) && b then negsuc 0 else pos 0)) else pos 0)
       (sym (lower_is (rank_by_hospital lists q) (rank_by_hospital lists v)))
 
@@ -138,7 +136,8 @@ module _ (lists : Lists) (formed : IsWellFormed lists) (q : ℕ) (q_is : IsPairN
 
     pair_small : AreSmall (pair_coefs lists q)
     pair_small v =
-        pair_size (is_in v (numbers_to (pair_count lists))) (v == q) (is_as_good_for_resident lists q v) (has_post lists q && is_as_good_for_hospital lists q v) (capacity_of lists (pair_at lists q).hospital) most_posts
+        pair_size (is_in v (numbers_to (pair_count lists))) (v == q) ((pair_at lists v).resident == (pair_at lists q).resident && nat_le (rank_by_resident lists v) (rank_by_resident lists q))
+        ((pair_at lists v).hospital == (pair_at lists q).hospital && nat_le (rank_by_hospital lists v) (rank_by_hospital lists q)) (capacity_of lists (pair_at lists q).hospital) most_posts
 
     offer_small : AreSmall (offer_coefs lists q)
     offer_small v = offer_size (is_in v (numbers_to (pair_count lists))) (v == q) (is_lower lists q v) (capacity_of lists (pair_at lists q).hospital) most_posts
@@ -182,8 +181,8 @@ module _ (lists : Lists) (formed : IsWellFormed lists) (q : ℕ) (q_is : IsPairN
             unit = found.1;
             row = unit_found p found.0 found.1;
             within = omega (arith, here.0.1);
-            coef = coef_as (is_pair lists p) (p == q) (is_as_good_for_resident lists q p) (capacity_of lists (pair_at lists q).hospital)
-                (capacity_of lists (pair_at lists q).hospital + 1) (if has_post lists q && is_as_good_for_hospital lists q p then 1 else 0)
+            coef = coef_as (is_pair lists p) (p == q) ((pair_at lists p).resident == (pair_at lists q).resident && nat_le (rank_by_resident lists p) (rank_by_resident lists q)) (capacity_of lists (pair_at lists q).hospital)
+                (capacity_of lists (pair_at lists q).hospital + 1) (if (pair_at lists p).hospital == (pair_at lists q).hospital && nat_le (rank_by_hospital lists p) (rank_by_hospital lists q) then 1 else 0)
                 (pair_listed lists p here.0) other (and_from ((pair_at lists p).resident == (pair_at lists q).resident) (nat_le (rank_by_resident lists p) (rank_by_resident lists q)) (eq-eqb (pair_at lists p).resident (pair_at lists q).resident here.1) two.1);
           }
 

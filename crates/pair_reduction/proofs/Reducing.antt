@@ -15,6 +15,8 @@ use Rattle.stability_model.specs.Gone.{AreGone, Gone, rule_a, rule_b}
 use Rattle.stability_model.proofs.GoneInNone.{gone_in_none}
 use Rattle.stability_model.proofs.GoneSteps.{gone_exact, gone_step}
 use Rattle.proof_lines.specs.declared.line.Line.{Line}
+use Rattle.proof_lines.specs.declared.line.Line.TheVariants.{Pol}
+use Rattle.proof_lines.specs.declared.line.PolStep.{PolStep}
 use Rattle.proof_lines.specs.Spelling.{row_no}
 use Rattle.proof_lines.specs.Texts.{line_text}
 use Rattle.proof_rules.specs.Held.{keeping, row_numbers}
@@ -22,12 +24,13 @@ use Rattle.proof_rules.specs.States.{IsInOrder}
 use Rattle.proof_rules.proofs.Held.{is_in-append}
 use Rattle.derivation.specs.Deletions.{AreUnitRows, Deletions, deleted_count, is_deleted, unit_row_no, unit_row}
 use Rattle.derivation.specs.Derived.{Derived, StaysValid}
+use Rattle.derivation.specs.Pieces.{TakesLine}
 use Rattle.derivation.specs.Ready.{IsReady}
 use Rattle.derivation.specs.Steps.{with_new_row}
 use Rattle.derivation.proofs.Readiness.{ready_row, row_last, row_numbered}
 use Rattle.pair_reduction.specs.Known.{IsOneMore}
 use Rattle.pair_reduction.specs.Reduced.{AreInNone, CanReduce, Deletes, GoesOn, HasRoom, IsClosedTo, KeepsLive, Reduces}
-use Rattle.pair_reduction.proofs.Added.{adds_line, adds_nothing, only_row, units_further}
+use Rattle.pair_reduction.proofs.Added.{adds_nothing, adds_pol, only_row, units_further}
 use Rattle.pair_reduction.proofs.GoingOn.{goes_further, goes_nowhere, goes_row, kept_further, kept_row, made_further, made_none, numbers_in, units_kept}
 
 -- ---- the map
@@ -149,7 +152,7 @@ reduces_none lists d deletions can = record {
   ids = [];
   later = λ n i. absurd (true≢false (sym i));
   held = ap (λ (ns : List ℕ). record d.held { kept = ns }) (sym (append-nil d.held.kept));
-  notes = adds_nothing d;
+  notes = adds_nothing deletions d;
   offers = made_none d d;
   apart = λ n i j. true≢false (sym j);
   only = λ n live out none. live;
@@ -159,9 +162,10 @@ reduces_none lists d deletions can = record {
 }
 
 -- an offer was made
-pub reduces_offer : (lists : Lists) (old new : Derived) (deletions : Deletions) (row : PlainRow) (line : Line) (id : RowNo) → CanReduce lists old deletions → IsInOrder old.state → id.0 ≡ old.state.next → new ≡ with_new_row row (line_text line) old → StaysValid old new →
+pub reduces_offer : (lists : Lists) (old new : Derived) (deletions : Deletions) (row : PlainRow) (steps : List PolStep) (id : RowNo) → CanReduce lists old deletions → IsInOrder old.state → id.0 ≡ old.state.next → new ≡ with_new_row row (line_text (Pol steps)) old → TakesLine (Pol steps) old new → StaysValid old new →
     Reduces lists old new deletions deletions (id ∷ [])
-reduces_offer lists old new deletions row line id can order number e valid =
+reduces_offer lists old new deletions row steps id can order number e takes valid =
+    let line : Line = Pol steps in
     let next : new.state.next ≡ old.state.next + 1 = ap (λ (d : Derived). d.state.next) e in
     let goes : GoesOn old new = goes_row row (line_text line) old new e valid in
     let kept : KeepsLive old new = kept_row row (line_text line) old new e in
@@ -181,7 +185,7 @@ reduces_offer lists old new deletions row line id can order number e valid =
       ids = [];
       later = λ n i. absurd (true≢false (sym i));
       held = ap (λ (d : Derived). d.held) e ∙ ap (λ (ns : List ℕ). record old.held { kept = ns }) (sym (append-nil old.held.kept));
-      notes = adds_line line old new (ap (λ (d : Derived). d.pending) e);
+      notes = adds_pol deletions steps old new can.ready takes;
       offers = record {
         distinct = refl;
         each = λ n i.
@@ -208,7 +212,7 @@ reduces_more lists a b c x y z xs ys g h = record {
     | inr e ↦ let two = h.later n e in (omega (arith, g.goes_on.later, two.0), two.1)
   ];
   held = h.held ∙ ap (keeping h.ids) g.held ∙ ap (λ (ns : List ℕ). record a.held { kept = ns }) (append_assoc a.held.kept g.ids h.ids);
-  notes = units_further g.ids h.ids a b c g.notes h.notes;
+  notes = units_further g.ids h.ids a b c x y z g.notes h.notes;
   offers = made_further a b c xs ys g.goes_on h.goes_on h.kept g.offers h.offers;
   apart = λ n i j.
       elim (or_cases (is_in n g.ids) (is_in n h.ids) (sym (is_in-append n g.ids h.ids) ∙ i)) [

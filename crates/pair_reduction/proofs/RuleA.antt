@@ -11,7 +11,7 @@ use Rattle.rank_tables.specs.Numbers.{is_in, numbers_to}
 use Rattle.rank_tables.specs.Instance.{Lists, capacity_of, pair_at, pair_count, rising_pairs_of_hospital, rank_by_hospital, rank_by_resident}
 use Rattle.rank_tables.specs.Tables.{IsPairNo}
 use Rattle.rank_tables.proofs.Numbers.{is_in-filter}
-use Rattle.rank_tables.specs.Terms.{has_post, is_as_good_for_resident}
+use Rattle.rank_tables.specs.Terms.{is_as_good_for_resident}
 use Rattle.stability_model.specs.Model.{pair_row, resident_row}
 use Rattle.stability_model.specs.Gone.{Pairs, is_sure}
 use Rattle.stability_model.proofs.CoefRows.{pair_coefs, pair_row-coefs}
@@ -38,20 +38,19 @@ some_share set v k = elim (cases_Bool (set (lit true v))) [
   | inr e ↦ rw e (omega arith)
 ]
 
-near_share : (set : Literals) (v : ℕ) (o h l : Bool) → open_share set v (pos (if o && (h && l) then 1 else 0)) ≤ (if h && (true && true && l) then 1 else 0)
-near_share set v true true true = some_share set v 1
-near_share set v true true false = some_share set v 0
-near_share set v true false l = some_share set v 0
-near_share set v false h l = zero_share set v (if h && (true && true && l) then 1 else 0)
+near_share : (set : Literals) (v : ℕ) (h l : Bool) → open_share set v (pos (if h && l then 1 else 0)) ≤ (if h && (true && true && l) then 1 else 0)
+near_share set v true true = some_share set v 1
+near_share set v true false = some_share set v 0
+near_share set v false l = some_share set v 0
 
 -- the pair itself, what its resident ranks as high, and what is gone is false; another pair of the hospital counts once
-pair_share : (set : Literals) (v c : ℕ) (o b s a h l g : Bool) → (b ≡ true → s ≡ true → set (lit true v) ≡ true) → (b ≡ true → a ≡ true → set (lit true v) ≡ true) → (b ≡ true → g ≡ true → set (lit true v) ≡ true) →
-    open_share set v (if b then pos (if s then c + 1 else if a then c else if o && (h && l) then 1 else 0) else pos 0) ≤ (if b && (h && (not s && not g && l)) then 1 else 0)
-pair_share set v c o false s a h l g x y z = zero_share set v 0
-pair_share set v c o true true a h l g x y z = closed_share set v (c + 1) (if h && (false && not g && l) then 1 else 0) (x refl refl)
-pair_share set v c o true false true h l g x y z = closed_share set v c (if h && (true && not g && l) then 1 else 0) (y refl refl)
-pair_share set v c o true false false h l true x y z = closed_share set v (if o && (h && l) then 1 else 0) (if h && (true && false && l) then 1 else 0) (z refl refl)
-pair_share set v c o true false false h l false x y z = near_share set v o h l
+pair_share : (set : Literals) (v c : ℕ) (b s a h l g : Bool) → (b ≡ true → s ≡ true → set (lit true v) ≡ true) → (b ≡ true → a ≡ true → set (lit true v) ≡ true) → (b ≡ true → g ≡ true → set (lit true v) ≡ true) →
+    open_share set v (if b then pos (if s then c + 1 else if a then c else if h && l then 1 else 0) else pos 0) ≤ (if b && (h && (not s && not g && l)) then 1 else 0)
+pair_share set v c false s a h l g x y z = zero_share set v 0
+pair_share set v c true true a h l g x y z = closed_share set v (c + 1) (if h && (false && not g && l) then 1 else 0) (x refl refl)
+pair_share set v c true false true h l g x y z = closed_share set v c (if h && (true && not g && l) then 1 else 0) (y refl refl)
+pair_share set v c true false false h l true x y z = closed_share set v (if h && l then 1 else 0) (if h && (true && false && l) then 1 else 0) (z refl refl)
+pair_share set v c true false false h l false x y z = near_share set v h l
 
 module _ (lists : Lists) (gone : Pairs) (p w : ℕ) (rows : List PlainRow) (p_is : IsPairNo lists p) (w_is : IsPairNo lists w) (same : (pair_at lists p).resident ≡ (pair_at lists w).resident) (sure : is_sure lists gone p ≡ true) (lower : rank_by_resident lists p < rank_by_resident lists w) (resident : Contains rows (in_normal_form (resident_row lists (pair_at lists w).resident))) (pair : Contains rows (in_normal_form (pair_row lists p))) (units : (g : ℕ) → IsPairNo lists g → gone g ≡ true → Contains rows (unit_row g)) where
   module _ (set : Literals) (quiet : IsQuiet (opposite_row (unit_row w) ∷ rows) none set) where
@@ -103,7 +102,7 @@ module _ (lists : Lists) (gone : Pairs) (p w : ℕ) (rows : List PlainRow) (p_is
         let c : ℕ = capacity_of lists (pair_at lists p).hospital in
         let few : count_by others (rising_pairs_of_hospital lists (pair_at lists p).hospital) < c = ltb-true (count_by others (rising_pairs_of_hospital lists (pair_at lists p).hospital)) c sure in
         let le = sum_below-le (suc (pair_count lists)) (λ v. open_share set v (pair_coefs lists p v)) (λ v. if is_pair lists v && ((pair_at lists v).hospital == (pair_at lists p).hospital && others v) then 1 else 0)
-        (λ v l. pair_share set v c (has_post lists p) (is_pair lists v) (v == p) (is_as_good_for_resident lists p v) ((pair_at lists v).hospital == (pair_at lists p).hospital) (nat_le (rank_by_hospital lists v) (rank_by_hospital lists p)) (gone v)
+        (λ v l. pair_share set v c (is_pair lists v) (v == p) (is_as_good_for_resident lists p v) ((pair_at lists v).hospital == (pair_at lists p).hospital) (nat_le (rank_by_hospital lists v) (rank_by_hospital lists p)) (gone v)
         (itself v) (as_good v) (deleted v)) in
         omega (arith, counted_below (pair_count lists) (λ v. (pair_at lists v).hospital == (pair_at lists p).hospital && others v), count_in_filter others (λ q. (pair_at lists q).hospital == (pair_at lists p).hospital) (numbers_to (pair_count lists)))
 

@@ -1,6 +1,6 @@
 -- What the line and the note of a deleted pair ask for, and what they do.
 use Rattle.std.proofs.Common.{◌≡◌, ℕ, ◌-◌, ◌*◌, ◌<◌, ◌≤◌, ◌^◌, true, ◌&&◌, List, [], ◌∷◌, ◌++◌, nat_le, if◌then◌else◌, length, pos, refl, sym, ap, ap₂, ◌∙◌, subst, inr, zero-le, arith}
-use Rattle.std.specs.Prelude.{Result, Ok, Err, IfOk, codes, decimal, OnErr}
+use Rattle.std.specs.Prelude.{None, Result, Ok, Err, IfOk, codes, decimal, OnErr}
 use Rattle.std.specs.Fmt.{digits, signed_decimal}
 use Rattle.std.specs.List.{list_all}
 use Rattle.std.proofs.lemmas.Bool.{and_from, and_parts, le-leb, leb-true}
@@ -11,6 +11,7 @@ use Rattle.pb_rows.specs.Terms.{PlainRow, weighing}
 use Rattle.pb_rows.specs.Normal.{all_sizes, normal_form}
 use Rattle.pb_rows.specs.Rows.{IsWellFormedRow, in_normal_form}
 use Rattle.pb_rows.specs.Closure.{Implies}
+use Rattle.pb_rows.specs.Formula.{is_numbered}
 use Rattle.row_text.specs.Rows.{is_small_row, literal_text, signed_text}
 use Rattle.row_text.specs.Tokens.{spaced}
 use Rattle.rank_tables.specs.Instance.{pair_count}
@@ -19,13 +20,15 @@ use Rattle.proof_lines.specs.declared.note.Note.TheVariants.{Unit as UnitRow}
 use Rattle.proof_lines.specs.Spelling.{most_bytes, row_no}
 use Rattle.proof_lines.specs.Texts.{is_spellable_id, line_text, note_text}
 use Rattle.proof_rules.specs.Refusals.{TooBig}
-use Rattle.proof_rules.specs.States.{State, if_known, literals_in, live_rows, rup_row, with_row}
+use Rattle.proof_rules.specs.States.{IsInOrder, State, if_known, literals_in, live_rows, rup_row, with_row}
 use Rattle.proof_rules.proofs.Canonical.{normal_form-normal}
 use Rattle.proof_rules.proofs.Made.{made_if, made_known, made_then}
 use Rattle.derivation.specs.Deletions.{unit_row}
 use Rattle.derivation.specs.Derived.{Derived}
+use Rattle.derivation.specs.Pieces.{TakesLine, TakesNote}
 use Rattle.derivation.specs.Steps.{IsWritable, Takes, with_note, written_of}
-use Rattle.pair_reduction.specs.Reduced.{StopsAtUnit, with_unit, with_unit_row}
+use Rattle.derivation.proofs.Readiness.{row_last, row_numbered}
+use Rattle.pair_reduction.specs.Reduced.{AddsUnit, StopsAtUnit, with_unit, with_unit_row}
 
 unit_normal : (p : ℕ) → IsWellFormedRow (unit_row p)
 unit_normal p = record { rising = (zero-le, omega arith, tt); fits = record { sum = omega arith; degree = omega arith } }
@@ -90,6 +93,22 @@ note_short n h = omega (arith, length-append (decimal n ++ []) (10 ∷ []), leng
 
 pub noted_unit : (p : ℕ) (old mid new : Derived) (id : RowNo) → mid ≡ with_unit_row p old → id.0 ≡ old.state.next → new ≡ with_note (UnitRow id) mid → new ≡ with_unit p old
 noted_unit p old mid new id made number noted = noted ∙ ap₂ (λ (r : RowNo) (d : Derived). with_note (UnitRow r) d) (ap row_no number) made
+
+pub adds_unit :
+    (row : PlainRow) (p : ℕ) (old mid new : Derived) (id : RowNo) → row ≡ unit_row p → mid ≡ with_unit_row p old → IsWritable (Rup (written_of row)) → old.claim ≡ None → IsInOrder old.state → Takes (Rup (written_of row)) old mid → id.0 ≡ old.state.next →
+    is_spellable_id id ≡ true → length (note_text (UnitRow id)) ≤ most_bytes → new ≡ with_note (UnitRow id) mid → AddsUnit p old new
+adds_unit row p old mid new id is made writable unconcluded order taken number spelled short noted =
+    let line : TakesLine (Rup (written_of row)) old mid = record { writable = writable; unconcluded = unconcluded; takes = taken } in
+    let there : is_numbered old.state.next (with_unit_row p old).state.live ≡ true =
+    row_numbered old.state.next (unit_row p) (with_unit_row p old).state.live (row_last old.state.next (unit_row p) old.state.live order) in
+    let note : TakesNote (UnitRow (row_no old.state.next)) (with_unit_row p old) new = record {
+      made = ap (λ (n : ℕ). is_spellable_id (row_no n)) (sym number) ∙ spelled;
+      short = subst (λ (n : ℕ). length (note_text (UnitRow (row_no n))) ≤ most_bytes) number short;
+      unconcluded = unconcluded;
+      so = there;
+      is = noted_unit p old mid new id made number noted;
+    } in
+    record { line = subst (λ (r : PlainRow). TakesLine (Rup (written_of r)) old (with_unit_row p old)) is (subst (TakesLine (Rup (written_of row)) old) made line); note = note }
 
 pub stopped : {T E : Type 0} (result : Result T E) (p : ℕ) (old mid new : Derived) → mid ≡ with_unit_row p old → new ≡ mid → OnErr result (StopsAtUnit p old new)
 stopped (Ok x) p old mid new made same = tt

@@ -1,5 +1,5 @@
 -- What a reduction leaves.
-use Rattle.std.specs.Prelude.{◌||◌, ◌^◌, [], ◌∷◌, ◌++◌, ◌-◌, slice_set, Bool, ◌&&◌, nat_lt, count_by, ◌≡◌, ℕ, ◌+◌, ◌*◌, ◌≤◌, true, false, ◌⊎◌, List, length, Some}
+use Rattle.std.specs.Prelude.{All, ◌||◌, ◌^◌, [], ◌∷◌, ◌++◌, ◌-◌, slice_set, Bool, ◌&&◌, nat_lt, count_by, ◌≡◌, ℕ, ◌+◌, ◌*◌, ◌≤◌, true, false, ◌⊎◌, List, length, Some}
 use Rattle.pb_rows.specs.Terms.{PlainRow}
 use Rattle.hrt_base.specs.declared.numbered.RowNo.{RowNo}
 use Rattle.pb_rows.specs.Formula.{NumberedRow, is_numbered, row_of}
@@ -15,7 +15,8 @@ use Rattle.proof_lines.specs.Texts.{line_text}
 use Rattle.proof_rules.specs.Held.{keeping, row_numbers}
 use Rattle.derivation.specs.Deletions.{AreUnitRows, Deletions, deleted_count, is_deleted, unit_row_no, unit_row}
 use Rattle.derivation.specs.Derived.{Derived, StaysValid}
-use Rattle.derivation.specs.Ready.{IsReady}
+use Rattle.derivation.specs.Pieces.{TakesLine, TakesNote}
+use Rattle.derivation.specs.Ready.{IsReady, IsSpare}
 use Rattle.derivation.specs.Steps.{with_new_row, with_note, written_of}
 use Rattle.pair_reduction.specs.Added.{AddsNotes, LeavesOnly, unit_notes}
 use Rattle.pair_reduction.specs.Offers.{offer_row}
@@ -37,13 +38,14 @@ pub record GoesOn (old new : Derived) : Type 0 where
   pub least : new.state.least ≡ old.state.least
   pub valid : StaysValid old new
 
--- The rows of the deleted pairs, one for each and each of them new, are held from here on, and no other row. A unit note of each
--- was added, and no other note. They are live, and no other row is that wasn't live before.
+-- The rows of the deleted pairs, one for each and each of them new, are held from here on, and no other row. Lines that keep the law
+-- of a written proof were added, with a unit note of each pair and no other note. The rows are live, and no other row is that wasn't
+-- live before.
 pub record HoldsUnits (old new : Derived) (deletions : Deletions) : Type 0 where
   pub ids : List ℕ
   pub later : (n : ℕ) → is_in n ids ≡ true → (old.state.next ≤ n) × (n + 1 ≤ new.state.next)
   pub held : new.held ≡ keeping ids old.held
-  pub notes : AddsNotes (unit_notes ids) old new
+  pub notes : AddsNotes [] deletions (unit_notes ids) old new
   pub only : LeavesOnly ids old new
   pub count : length ids ≡ deleted_count deletions
   pub each : (n : ℕ) → is_in n ids ≡ true → (p : ℕ) × (unit_row_no deletions p ≡ Some (record { 0 = n }))
@@ -60,6 +62,11 @@ with_unit_row p d = with_new_row (unit_row p) (line_text (Rup (written_of (unit_
 -- the unit row of a pair was made by a `rup` line, and a note names it
 abbrev pub with_unit : ℕ → Derived → Derived
 with_unit p d = with_note (UnitRow (row_no d.state.next)) (with_unit_row p d)
+
+-- the line was added that makes the unit row of a pair, and then the note that names it
+pub record AddsUnit (p : ℕ) (old new : Derived) : Type 0 where
+  pub line : TakesLine (Rup (written_of (unit_row p))) old (with_unit_row p old)
+  pub note : TakesNote (UnitRow (row_no old.state.next)) (with_unit_row p old) new
 
 -- where memory was wanting nothing was done, or all but the note
 abbrev pub StopsAtUnit : ℕ → Derived → Derived → Type 0
@@ -83,13 +90,14 @@ pub record HasOffers (lists : Lists) (p : ℕ) (live : List NumberedRow) : Type 
 pub record CanForget (ids : List RowNo) (d : Derived) : Type 0 where
   pub distinct : is_distinct (row_numbers ids) ≡ true
   pub live : (n : ℕ) → is_in n (row_numbers ids) ≡ true → is_numbered n d.state.live ≡ true
+  pub spare : All (IsSpare d) ids
 
 -- these rows were forgotten, and nothing else was done
 pub record Forgets (ids : List RowNo) (old new : Derived) : Type 0 where
   pub goes_on : GoesOn old new
   pub held : new.held ≡ old.held
   pub next : new.state.next ≡ old.state.next
-  pub notes : AddsNotes [] old new
+  pub notes : (deletions : Deletions) → AddsNotes deletions deletions [] old new
   pub others : (n : ℕ) → is_in n (row_numbers ids) ≡ false → row_of n new.state.live ≡ row_of n old.state.live
   pub only : (n : ℕ) → is_numbered n new.state.live ≡ true → (is_numbered n old.state.live ≡ true) × (is_in n (row_numbers ids) ≡ false)
 
@@ -103,7 +111,7 @@ pub record Deletes (old new : Derived) (before after : Deletions) (p : ℕ) : Ty
   pub kept : KeepsLive old new
   pub ready : IsReady new
   pub held : new.held ≡ keeping (id ∷ []) old.held
-  pub notes : AddsNotes (unit_notes (id ∷ [])) old new
+  pub notes : AddsNotes before after (unit_notes (id ∷ [])) old new
   pub only : LeavesOnly (id ∷ []) old new
   pub marked : after ≡ slice_set before (p - 1) (Some (row_no id))
   pub row : row_of id new.state.live ≡ Some (unit_row p)
@@ -133,7 +141,7 @@ pub record Reduces (lists : Lists) (old new : Derived) (before after : Deletions
   pub ids : List ℕ
   pub later : (n : ℕ) → is_in n ids ≡ true → (old.state.next ≤ n) × (n + 1 ≤ new.state.next)
   pub held : new.held ≡ keeping ids old.held
-  pub notes : AddsNotes (unit_notes ids) old new
+  pub notes : AddsNotes before after (unit_notes ids) old new
   pub offers : AreMade old new made
   pub apart : (n : ℕ) → is_in n ids ≡ true → is_in n (row_numbers made) ≡ true → ⊥
   pub only : (n : ℕ) → is_numbered n new.state.live ≡ true → is_in n ids ≡ false → is_in n (row_numbers made) ≡ false → is_numbered n old.state.live ≡ true

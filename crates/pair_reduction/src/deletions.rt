@@ -1,7 +1,8 @@
 // Pairs that a rule shows are deleted.
-ghost use Rattle.std.specs.Prelude.{◌≡◌, ◌≤◌, ◌+◌, ◌<◌, ◌^◌, [], None, OnErr, OnOk, length, true, false};
+ghost use Rattle.std.specs.Prelude.{◌≡◌, ◌≤◌, ◌+◌, ◌<◌, ◌^◌, [], OnErr, OnOk, length, true, false};
 ghost use Rattle.rank_tables.specs.Tables.{IsPairNo};
 ghost use Rattle.derivation.specs.Deletions.{is_deleted};
+ghost use Rattle.derivation.specs.Ready.{IsReady};
 ghost use Rattle.pair_reduction.specs.Flags.{is_marked};
 ghost use Rattle.pair_reduction.specs.Known.{IsKept, IsOneMore, marks_on};
 ghost use Rattle.pair_reduction.specs.Offered.{AreOffers, ReducesBy, offers_left};
@@ -79,7 +80,7 @@ pub(crate) fn delete_by_rule(
 
 /// Forgets rows that were made for a while. Where there is none, it writes no line.
 pub(crate) fn forget(alloc: Global, deriv: &mut Derivation, ids: &[RowNo]) -> Result<(), NoMemory>
-    requires open { deriv.old.claim ≡ None }
+    requires ready { IsReady deriv.old }
     requires can { CanForget ids.now deriv.old }
     requires few { length ids.now ≤ 100000 }
     requires next { deriv.old.state.next ≤ 10 ^ 18 }

@@ -29,7 +29,7 @@ impl Offers {
     }
 
     /// Tells whether the offer of a pair was made.
-    pub(crate) fn is_made(&self, q: PairNo) -> bool
+    pub(crate) fn is_offered(&self, q: PairNo) -> bool
         requires q { 1 ≤ q.0 }
         requires last { q.0 ≤ length self.now.offered.items }
         ensures { result ≡ is_marked self.now.offered.items q.0 }

@@ -8,6 +8,7 @@ ghost use Rattle.proof_lines.specs.Texts.{line_text};
 ghost use Rattle.proof_rules.specs.States.{IsInOrder};
 ghost use Rattle.derivation.specs.Deletions.{AreUnitRows, is_deleted};
 ghost use Rattle.derivation.specs.Derived.{StaysValid};
+ghost use Rattle.derivation.specs.Pieces.{TakesLine};
 ghost use Rattle.derivation.specs.Ready.{IsReady};
 ghost use Rattle.derivation.specs.Steps.{with_new_row};
 ghost use Rattle.pair_reduction.specs.Flags.{is_marked};
@@ -111,6 +112,7 @@ pub(crate) fn offer(
     requires next { deriv.old.state.next < 10 ^ 18 }
     ensures id { IfOk result (λ id. id.0 ≡ deriv.old.state.next) }
     ensures made { OnOk result (deriv.new ≡ with_new_row (offer_row model.now q.0) (line_text (Line.Pol (offer_steps model.now gone.now q.0))) deriv.old) }
+    ensures takes { OnOk result (TakesLine (Line.Pol (offer_steps model.now gone.now q.0)) deriv.old deriv.new) }
     ensures err { OnErr result (deriv.new ≡ deriv.old) }
     ensures valid { StaysValid deriv.old deriv.new }
     ensures order { IsInOrder deriv.old.state }
@@ -146,7 +148,7 @@ fn offer_once(
     ensures goes_on { GoesOn deriv.old deriv.new }
     ensures next { deriv.new.state.next ≤ deriv.old.state.next + offers_left model.now offers.old }
 {
-    if offers.is_made(q) {
+    if offers.is_offered(q) {
         return Ok(());
     }
     let id = offer(alloc, model, deriv, gone, q)?;

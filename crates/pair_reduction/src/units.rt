@@ -7,7 +7,7 @@ ghost use Rattle.proof_lines.specs.Spelling.{row_no};
 ghost use Rattle.proof_rules.specs.States.{live_rows};
 ghost use Rattle.derivation.specs.Deletions.{unit_row_no, unit_row};
 ghost use Rattle.derivation.specs.Derived.{StaysValid};
-ghost use Rattle.pair_reduction.specs.Reduced.{StopsAtUnit, with_unit};
+ghost use Rattle.pair_reduction.specs.Reduced.{AddsUnit, StopsAtUnit, with_unit};
 
 use derivation::{Deleted, Derivation};
 use hrt_base::{Lit, NoMemory, PairNo, Term};
@@ -46,6 +46,7 @@ pub(crate) fn delete(
     requires implied { Implies (live_rows deriv.old.state) (unit_row p.0) }
     requires next { deriv.old.state.next < 10 ^ 18 }
     ensures made { OnOk result (deriv.new ≡ with_unit p.0 deriv.old) }
+    ensures adds { OnOk result (AddsUnit p.0 deriv.old deriv.new) }
     ensures marked { OnOk result (gone.new ≡ slice_set gone.old (p.0 - 1) (Some (row_no deriv.old.state.next))) }
     ensures early { OnErr result (StopsAtUnit p.0 deriv.old deriv.new) }
     ensures valid { StaysValid deriv.old deriv.new }

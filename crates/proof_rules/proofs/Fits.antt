@@ -10,10 +10,8 @@ use Rattle.pb_rows.specs.Terms.{PlainRow, coef_sum, positive_part}
 use Rattle.pb_rows.specs.Points.{Point, true_sum, value_at}
 use Rattle.pb_rows.specs.Normal.{all_sizes, gained, normal_form, on_opposites, sizes, var_bound}
 use Rattle.pb_rows.specs.Rows.{Fits, IsWellFormedRow, literal_row}
-use Rattle.pb_rows.specs.Joined.{joined_form, signless_all, turned_sum}
-use Rattle.pb_rows.proofs.ByNets.{holds-normal_form, joined_form_is, joined_rising}
-use Rattle.pb_rows.proofs.Order.{put_all_sum}
-use Rattle.pb_rows.proofs.Signs.{positive_part_le, signless_from, signless_sum, turned_sum_le}
+use Rattle.pb_rows.proofs.ByNets.{holds-normal_form}
+pub use Rattle.pb_rows.proofs.NormalSizes.{fits-normal_form, normal_form-degree, normal_form-rises, normal_form-sum}
 use Rattle.pb_rows.proofs.Sums.{true_sum_le}
 use Rattle.proof_rules.specs.Pol.{fits}
 use Rattle.proof_rules.specs.States.{at_most_row, minus_terms}
@@ -40,27 +38,6 @@ grown c k = let h : 1 ≤ suc k = omega arith in omega (arith, mul-le-mul_left c
 
 pub fits-literal_row : (l : Lit) → Fits (literal_row l)
 fits-literal_row l = record { sum = omega arith; degree = omega arith }
-
--- ---- normal form: the sum of the sizes is enough
-
-joined-sum : (ts : List Term) (at_least : ℤ) → coef_sum (joined_form ts at_least).terms ≤ sizes ts
-joined-sum ts at_least = omega (arith, put_all_sum 0 [] (signless_all ts) (signless_from ts), signless_sum ts)
-
-joined-degree : (ts : List Term) (at_least : ℤ) → (joined_form ts at_least).degree ≤ all_sizes ts at_least
-joined-degree ts at_least = omega (arith, positive_part_le at_least (turned_sum ts), turned_sum_le ts)
-
-pub normal_form-sum : (ts : List Term) (at_least : ℤ) → coef_sum (normal_form ts at_least).terms ≤ sizes ts
-normal_form-sum ts at_least = subst (λ (row : PlainRow). coef_sum row.terms ≤ sizes ts) (joined_form_is ts at_least) (joined-sum ts at_least)
-
-pub normal_form-degree : (ts : List Term) (at_least : ℤ) → (normal_form ts at_least).degree ≤ all_sizes ts at_least
-normal_form-degree ts at_least = subst (λ (row : PlainRow). row.degree ≤ all_sizes ts at_least) (joined_form_is ts at_least) (joined-degree ts at_least)
-
--- a row whose written numbers have sizes that sum to at most 2^120
-pub fits-normal_form : (ts : List Term) (at_least : ℤ) → all_sizes ts at_least ≤ 2 ^ 120 → Fits (normal_form ts at_least)
-fits-normal_form ts at_least h = record { sum = omega (arith, h, normal_form-sum ts at_least); degree = omega (arith, h, normal_form-degree ts at_least) }
-
-pub normal_form-rises : (ts : List Term) (at_least : ℤ) → Fits (normal_form ts at_least) → IsWellFormedRow (normal_form ts at_least)
-normal_form-rises ts at_least h = record { rising = joined_rising (var_bound ts) ts; fits = h }
 
 -- ---- the row of a solution
 

@@ -11,8 +11,8 @@ use Rattle.rank_tables.specs.Numbers.{numbers_to}
 use Rattle.proof_rules.specs.Notes.{Fresh, HaveSizes, is_greater, set_size, with_lit}
 
 -- under the decisions of a fresh row the held rows aren't refuted
-pub fresh-not_refuted : (held : List PlainRow) (row : PlainRow) (decisions : List Lit) (l : Lit) → Fresh held row decisions l → Refuted held (among decisions) → ⊥
-fresh-not_refuted held row decisions l fresh r = r fresh.set fresh.closure.quiet
+pub fresh-not_refuted : (vars : ℕ) (held : List PlainRow) (row : PlainRow) (decisions : List Lit) (l : Lit) → Fresh vars held row decisions l → Refuted held (among decisions) → ⊥
+fresh-not_refuted vars held row decisions l fresh r = r fresh.set fresh.closure.quiet
 
 -- ---- lists of literals
 

@@ -7,6 +7,7 @@ use Rattle.hrt_base.specs.declared.literal.Lit.{Lit}
 use Rattle.hrt_base.specs.declared.numbered.RowNo.{RowNo}
 use Rattle.hrt_base.specs.declared.literal.Term.{Term}
 use Rattle.pb_rows.specs.Terms.{PlainRow, opposite_lit}
+use Rattle.pb_rows.specs.Points.{IsCovered}
 use Rattle.pb_rows.specs.Rows.{holds, in_normal_form}
 use Rattle.pb_rows.specs.Closure.{IsClosure, IsQuiet, IsSettled, Keeps, Literals, Propagates, among}
 use Rattle.stability_model.specs.Model.{pair_row, pair_row_no, point_of_pairs}
@@ -174,8 +175,10 @@ closed-closure = record {
   least = λ other q l t. among-all (λ k. other k ≡ true) (not_x 1 ∷ x 2 ∷ []) l (q.has_given (not_x 1) refl, (second_in other q, tt)) t;
 }
 
-fresh : Fresh (either ∷ []) learned decided (x 3)
+fresh : Fresh 3 (either ∷ []) learned decided (x 3)
 fresh = record {
+  decisions_known = All-from_recursion (λ (d : Lit). IsCovered 3 d.var) decided (record { first = omega arith; last = omega arith }, tt);
+  known = record { first = omega arith; last = omega arith };
   decided = ((among [], none-closure, record { not_true = refl; not_false = refl }), tt);
   set = closed;
   closure = closed-closure;
@@ -184,8 +187,19 @@ fresh = record {
 }
 
 -- the row itself isn't fresh: what it would assert is in the closure already
-known-literal : Fresh (either ∷ []) either decided (x 2) → ⊥
+known-literal : Fresh 3 (either ∷ []) either decided (x 2) → ⊥
 known-literal h = true≢false (sym (second_in h.set h.closure.quiet) ∙ h.leaves_open.not_true)
+
+-- no row of a model of three pairs asserts x4, or is learned under a decision of it
+strange-assertion : (id : RowNo) (decisions : List Lit) → IsTrueNote tied s0.live (first_held tied) (Learn id decisions (x 4)) → ⊥
+strange-assertion id decisions h =
+    let last : 4 ≤ 3 = h.2.known.last in
+    omega (arith, last)
+
+strange-decision : (id : RowNo) (l : Lit) → IsTrueNote tied s0.live (first_held tied) (Learn id (x 1 ∷ not_x 4 ∷ []) l) → ⊥
+strange-decision id l h =
+    let second : IsCovered 3 4 = h.2.decisions_known 1 (x 0) (omega arith) in
+    omega (arith, second.last)
 
 -- and neither x2 nor its opposite is a decision after ~x1
 decided-true : AreDecisions (either ∷ []) [] (not_x 1 ∷ x 2 ∷ []) → ⊥

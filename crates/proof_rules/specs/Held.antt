@@ -1,11 +1,11 @@
 -- The rows that a proof's notes hold, beside those that are held from the start.
-use Rattle.std.specs.Prelude.{ℕ, ◌+◌, Bool, not, ◌==◌, IsTrue, List, [], ◌∷◌, ◌++◌, map, filter, Option, Some, None}
+use Rattle.std.specs.Prelude.{◌≡◌, ℕ, ◌+◌, ◌-◌, ◌≤◌, Bool, not, ◌==◌, IsTrue, List, [], ◌∷◌, ◌++◌, length, map, filter, slice_get, Option, Some, None}
 use Rattle.hrt_base.specs.declared.numbered.RowNo.{RowNo}
 use Rattle.pb_rows.specs.Terms.{PlainRow}
-use Rattle.pb_rows.specs.Formula.{NumberedRow, is_numbered, rows_of}
+use Rattle.pb_rows.specs.Formula.{NumberedRow, is_numbered, row_of, rows_of}
 use Rattle.rank_tables.specs.Numbers.{is_in, numbers_to}
 use Rattle.rank_tables.specs.Instance.{Lists}
-use Rattle.stability_model.specs.Model.{pair_row_no}
+use Rattle.stability_model.specs.Model.{pair_row_no, rows}
 use Rattle.proof_lines.specs.declared.line.Line.{Line}
 use Rattle.proof_lines.specs.declared.line.Line.TheVariants.{Soli}
 use Rattle.proof_lines.specs.declared.note.Note.{Note}
@@ -33,6 +33,15 @@ held_rows live held = rows_of (filter (λ entry. is_held held entry.number) live
 -- each held number is that of a live row
 abbrev pub HeldAreLive : List NumberedRow → Held → Type 0
 HeldAreLive live held = (n : ℕ) → IsTrue (is_held held n) → IsTrue (is_numbered n live)
+
+-- each row of the model is live, under its number
+abbrev pub ModelIsLive : Lists → List NumberedRow → Type 0
+ModelIsLive lists live = (k : ℕ) → 1 ≤ k → k ≤ length (rows lists) → row_of k live ≡ slice_get (rows lists) (k - 1)
+
+-- No held row and no row of the model was deleted, so what a note says of the held rows that are live it says of all of them.
+pub record NoneIsDeleted (lists : Lists) (live : List NumberedRow) (held : Held) : Type 0 where
+  pub model_live : ModelIsLive lists live
+  pub held_live : HeldAreLive live held
 
 -- what is held before any line: the rows of residents and of hospitals, which stand before those of pairs
 abbrev pub first_held : Lists → Held

@@ -4,12 +4,12 @@ use Rattle.hrt_base.specs.declared.literal.Lit.{Lit}
 use Rattle.hrt_base.specs.declared.literal.Term.{Term}
 use Rattle.hrt_base.specs.declared.numbered.RowNo.{RowNo}
 use Rattle.pb_rows.specs.Terms.{PlainRow, opposite_lit}
-use Rattle.pb_rows.specs.Points.{Point}
+use Rattle.pb_rows.specs.Points.{IsCovered, Point}
 use Rattle.pb_rows.specs.Rows.{AllHold, holds, in_normal_form}
 use Rattle.pb_rows.specs.Closure.{IsClosure, Literals, Propagates, among, is_same_lit}
 use Rattle.pb_rows.specs.Formula.{NumberedRow, is_numbered, row_of}
 use Rattle.rank_tables.specs.Numbers.{is_in, numbers_to}
-use Rattle.rank_tables.specs.Instance.{Lists}
+use Rattle.rank_tables.specs.Instance.{Lists, pair_count}
 use Rattle.rank_tables.specs.Tables.{IsPairNo}
 use Rattle.stability_model.specs.Model.{pair_row, pair_row_no, point_of_pairs}
 use Rattle.proof_lines.specs.declared.note.Note.{Note}
@@ -44,9 +44,11 @@ AreDecisions rows earlier (d ∷ later) = ((set : Literals) × IsClosure rows (a
 abbrev pub Asserts : Literals → PlainRow → Lit → Type 0
 Asserts set row l = (t : Term) × Contains row.terms t × (t.lit ≡ l) × Propagates set row t
 
--- Each decision is open in the closure under those before it. Under all of them the held rows aren't refuted and leave the
--- literal open, and the new row propagates it.
-pub record Fresh (held : List PlainRow) (row : PlainRow) (decisions : List Lit) (l : Lit) : Type 0 where
+-- The decisions and the literal are over the variables 1 to vars. Each decision is open in the closure under those before it. Under
+-- all of them the held rows aren't refuted and leave the literal open, and the new row propagates it.
+pub record Fresh (vars : ℕ) (held : List PlainRow) (row : PlainRow) (decisions : List Lit) (l : Lit) : Type 0 where
+  pub decisions_known : All (λ d. IsCovered vars d.var) decisions
+  pub known : IsCovered vars l.var
   pub decided : AreDecisions held [] decisions
   pub set : Literals
   pub closure : IsClosure held (among decisions) set
@@ -92,13 +94,13 @@ pub record Later (vars : ℕ) (b a : LearnedRow) : Type 0 where
 -- ---- notes
 
 -- the row with the number is live, and it is fresh over the held rows with these decisions and this literal
-abbrev pub LearnsFresh : List NumberedRow → Held → RowNo → List Lit → Lit → Type 0
-LearnsFresh live held id decisions l = (row : PlainRow) × (row_of id.0 live ≡ Some row) × Fresh (held_rows live held) row decisions l
+abbrev pub LearnsFresh : ℕ → List NumberedRow → Held → RowNo → List Lit → Lit → Type 0
+LearnsFresh vars live held id decisions l = (row : PlainRow) × (row_of id.0 live ≡ Some row) × Fresh vars (held_rows live held) row decisions l
 
 -- what a note says is so, where these rows are live and held
 abbrev pub IsTrueNote : Lists → List NumberedRow → Held → Note → Type 0
 IsTrueNote lists live held (UnitRow id) = IsTrue (is_numbered id.0 live)
 IsTrueNote lists live held (BoundRow id) = IsTrue (is_numbered id.0 live)
 IsTrueNote lists live held (Load trues ids) = HonestLoad lists (held_rows live held) trues ids
-IsTrueNote lists live held (Learn id decisions l) = LearnsFresh live held id decisions l
+IsTrueNote lists live held (Learn id decisions l) = LearnsFresh (pair_count lists) live held id decisions l
 IsTrueNote lists live held (Drop id) = IsTrue (is_in id.0 held.learned)

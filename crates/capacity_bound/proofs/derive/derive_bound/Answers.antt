@@ -2,7 +2,7 @@ use Rattle.std.proofs.Common.{List, ◌∙◌, sym, subst, arith}
 use Rattle.proof_lines.specs.declared.line.PolStep.{PolStep}
 use Rattle.derivation.proofs.InOrder.{end_above}
 use Rattle.capacity_bound.specs.Steps.{AddsRows}
-use Rattle.capacity_bound.proofs.BoundDerived.{has_bound, line_makes, line_writable, note_made, note_short, on_err, operands_some, ready_again, row_there, stops_early}
+use Rattle.capacity_bound.proofs.BoundDerived.{has_bound, lawful, line_makes, line_writable, note_made, note_short, on_err, operands_some, ready_again, row_there, stops_early}
 use Rattle.capacity_bound.proofs.derive.derive_bound.Goals as goal
 
 pub steps_adding-requires : goal.steps_adding-requires
@@ -46,3 +46,9 @@ pub returns-clause-ready : goal.returns-clause-ready
 returns-clause-ready c =
     ready_again c.args.inst.now c.args.gone.now c.args.deriv.now c.requires.derivation c.requires.ready c.next-next.ensures.in_order c.requires.next c.requires.units (omega (arith, c.pairs.ensures.count, c.pairs.ensures.few)) c.in_ok-operands.ensures.well_formed
     (omega (arith, c.pairs.ensures.count, c.if-pairs-eq0.false)) c.deref.result.now c.deref-2.result.now (c.deref.ensures.value ∙ c.in_ok-operands.ensures.are) (subst (λ (s : List PolStep). AddsRows c.deref.result.now s) (sym c.deref-2.ensures.value) c.in_ok-steps.ensures) c.pol_that_fits.new.self c.in_ok-id.ensures.step c.in_ok-id.id c.note.new.self c.in_ok-id.ensures.id c.in_ok-note.ensures.note
+
+pub returns-clause-lawful : goal.returns-clause-lawful
+returns-clause-lawful c =
+    lawful c.args.inst.now c.args.gone.now c.args.deriv.now c.requires.derivation c.requires.ready c.next-next.ensures.in_order c.requires.next c.requires.units (omega (arith, c.pairs.ensures.count, c.pairs.ensures.few)) c.in_ok-operands.ensures.well_formed
+    (omega (arith, c.pairs.ensures.count, c.if-pairs-eq0.false)) c.deref.result.now c.deref-2.result.now (c.deref.ensures.value ∙ c.in_ok-operands.ensures.are) (subst (λ (s : List PolStep). AddsRows c.deref.result.now s) (sym c.deref-2.ensures.value) c.in_ok-steps.ensures) c.pol_that_fits.new.self c.in_ok-id.ensures.step c.in_ok-id.id c.note.new.self c.in_ok-id.ensures.id c.in_ok-note.ensures.note
+    (note_made c.in_ok-id.id.0 c.args.deriv.now.state.next c.in_ok-id.ensures.id (end_above 1 c.args.deriv.now.state.next c.args.deriv.now.state.live c.next-next.ensures.in_order) c.requires.next) (note_short c.in_ok-id.id.0 (omega (arith, c.in_ok-id.ensures.id, c.requires.next)))

@@ -5,6 +5,8 @@ use Rattle.stability_model.specs.Model.{rows}
 use Rattle.derivation.specs.Deletions.{is_deleted}
 use Rattle.derivation.specs.Derived.{Derived}
 use Rattle.pair_reduction.specs.Reduced.{AreInNone, MakesFew}
+use Rattle.derivation.proofs.Starts.{count_writable}
+use Rattle.hrt_solve.proofs.KeepsLaw.{lawful_bound}
 use Rattle.hrt_solve.proofs.Gauging.{gauged, most, next_small, numbers_are, unlogged}
 use Rattle.hrt_solve.proofs.bounding.gauge.Goals as goal
 
@@ -29,3 +31,11 @@ returns-clause-next c =
     next_small c.args.inst.now c.in_ok-gone.gone c.in_ok-row.row c.args.deriv.now c.reduce.new.deriv c.derive_bound.new.deriv c.requires.first c.reduce.ensures.goes_on c.in_ok-gone.ensures.holds c.in_ok-row.ensures.bound
     (subst (λ (l : Lists). MakesFew (pair_count l) c.args.deriv.now c.reduce.new.deriv) (ap (λ (d : Derived). d.lists) c.requires.first) c.reduce.ensures.few) (omega (arith, c.pairs-pairs.ensures.count, c.pairs-pairs.ensures.few))
     (subst (λ (l : Lists). length (rows l) < 2 ^ 32) c.requires.model (omega (arith, c.row_count-rows.ensures.count)))
+
+pub returns-clause-lawful : goal.returns-clause-lawful
+returns-clause-lawful c =
+    let lists : Lists = c.args.inst.now in
+    let few : length (rows lists) < 2 ^ 32 = subst (λ (l : Lists). length (rows l) < 2 ^ 32) c.requires.model (omega (arith, c.row_count-rows.ensures.count)) in
+    let are : AreGone lists (is_deleted c.in_ok-gone.gone) = subst (λ (l : Lists). AreGone l (is_deleted c.in_ok-gone.gone)) (ap (λ (d : Derived). d.lists) c.requires.first) c.in_ok-gone.ensures.gone in
+    lawful_bound lists c.in_ok-gone.gone c.args.deriv.now c.reduce.new.deriv c.requires.first (count_writable (length (rows lists)) few) c.requires.stands are c.reduce.ensures.goes_on c.in_ok-gone.ensures.holds c.in_ok-row.row c.derive_bound.new.deriv c.in_ok-row.ensures.bound c.in_ok-row.ensures.lawful
+    c.in_ok-row.ensures.ready

@@ -19,7 +19,7 @@ returns-clause-logged c =
     let is = point_as c.args.deriv.now.lists c.args.pairs.now c.in_ok-point.point.items c.deref.result.now c.pairs.result c.deref.ensures.value (c.pairs.ensures.count ∙ ap pair_count (c.instance.ensures ∙ c.requires.same)) c.in_ok-point.ensures.is in
     logs (length c.args.pairs.now) (length c.deref.result.now) (point_of c.deref.result.now) c.in_ok-id.id c.args.deriv.now c.solution.new.self
     (ap length c.deref.ensures.value ∙ c.in_ok-point.ensures.full ∙ c.pairs.ensures.count ∙ ap pair_count (c.instance.ensures ∙ c.requires.same))
-    (point_value c.args.deriv.now.lists c.args.pairs.now c.deref.result.now is c.requires.stable) c.in_ok-id.ensures.id c.in_ok-id.ensures.step
+    (point_value c.args.deriv.now.lists c.args.pairs.now c.deref.result.now is c.requires.stable) c.in_ok-id.ensures.id (solution_writable (length c.deref.result.now) (point_of c.deref.result.now) (omega (arith, ap length c.deref.ensures.value, c.in_ok-point.ensures.full, c.pairs.ensures.count, c.pairs.ensures.few))) c.requires.unconcluded c.in_ok-id.ensures.step
 
 pub returns-clause-larger : goal.returns-clause-larger
 returns-clause-larger c =

@@ -23,3 +23,11 @@ returns-clause-made c =
     c.hospital_of-hospital.ensures.value c.hospital_of-hospital.ensures.declared c.capacity.ensures.value c.capacity.ensures.few)
     c.requires.q c.requires.model c.requires.ready c.next.ensures.in_order c.requires.next c.requires.units c.requires.only c.requires.posts c.requires.few c.pair_row.ensures.number c.pair_row.ensures.row (c.deref.ensures.value ∙ c.in_ok-steps.ensures)).done
     c.pol_that_fits.new.self c.in_ok-id.ensures.step
+
+pub returns-clause-takes : goal.returns-clause-takes
+returns-clause-takes c =
+    (makes_offer c.args.model.now c.args.q.0 c.args.deriv.now c.args.gone.now c.deref.result.now c.pair_row.result
+    (limits_of c.instance-inst.result.now c.args.model.now c.args.q.0 c.pairs.result c.hospital_of-hospital.result c.capacity.result c.instance-inst.ensures c.residents.ensures.well_formed c.pairs.ensures.count c.pairs.ensures.few
+    c.hospital_of-hospital.ensures.value c.hospital_of-hospital.ensures.declared c.capacity.ensures.value c.capacity.ensures.few)
+    c.requires.q c.requires.model c.requires.ready c.next.ensures.in_order c.requires.next c.requires.units c.requires.only c.requires.posts c.requires.few c.pair_row.ensures.number c.pair_row.ensures.row (c.deref.ensures.value ∙ c.in_ok-steps.ensures)).takes
+    c.pol_that_fits.new.self c.in_ok-id.ensures.step

@@ -37,7 +37,7 @@ returns-in_default-clause-in_none c =
 pub forget-requires-clause-can : goal.forget-requires-clause-can
 forget-requires-clause-can c =
     subst (λ (xs : List RowNo). CanForget xs c.visits.deriv) (sym c.deref.ensures.value)
-    (can_forget c.args.model.now c.args.deriv.now c.visits.deriv (replicate (pair_count c.args.model.now) None) c.visits.known.gone c.visits.offers.made.items c.visits.invariant.reduces)
+    (can_forget c.args.model.now c.args.deriv.now c.visits.deriv (replicate (pair_count c.args.model.now) None) c.visits.known.gone c.visits.offers.made.items c.requires.ready c.next-start.ensures.in_order c.visits.invariant.reduces)
 
 pub forget-requires-clause-few : goal.forget-requires-clause-few
 forget-requires-clause-few c =
@@ -52,8 +52,8 @@ forget-requires-clause-next c =
       c.requires.next,
     )
 
-pub forget-requires-clause-open : goal.forget-requires-clause-open
-forget-requires-clause-open c = c.visits.invariant.reduces.can.ready.unconcluded
+pub forget-requires-clause-ready : goal.forget-requires-clause-ready
+forget-requires-clause-ready c = c.visits.invariant.reduces.can.ready
 
 pub returns-in_default-clause-units : goal.returns-in_default-clause-units
 returns-in_default-clause-units c =

@@ -1,0 +1,16 @@
+pub mod Literals
+pub mod Halving
+pub mod Numbers
+pub mod OpenSums
+pub mod Weakened
+pub mod Nets
+pub mod Trails
+pub mod CutStep
+pub mod FinishedAt
+pub mod CutEnds
+pub mod FinishedRows
+pub mod ClauseStep
+pub mod ClauseEnds
+pub mod CutCode
+pub mod Tabled
+pub mod Proved

@@ -1,0 +1,28 @@
+-- What the code keeps of a trail: by variable the place of its literal, the sign and the level.
+use Rattle.std.specs.Prelude.{◌-◌, ℕ, Bool, false, not, nat_le, nat_lt, ◌&&◌, if◌then◌else◌, List, slice_index_or}
+use Rattle.pb_rows.specs.Closure.{Literals}
+use Rattle.conflict_rows.specs.declared.marks.Mark.{Mark}
+
+-- a free variable
+abbrev pub no_mark : Mark
+no_mark = record { place = 0; neg = false; level = 0 }
+
+-- the mark of a variable: variable v stands at place v - 1
+abbrev pub mark_of : List Mark → ℕ → Mark
+mark_of marks v = slice_index_or marks (v - 1) no_mark
+
+-- whether the mark is that of the literal with this sign, which is true
+abbrev pub marks_true : Mark → Bool → Bool
+marks_true m neg = nat_lt 0 m.place && (if m.neg then neg else not neg)
+
+-- the literals that are true
+abbrev pub set_now : List Mark → Literals
+set_now marks l = marks_true (mark_of marks l.var) l.neg
+
+-- the literals at the first k places of the trail
+abbrev pub set_before : List Mark → ℕ → Literals
+set_before marks k l = marks_true (mark_of marks l.var) l.neg && nat_le (mark_of marks l.var).place k
+
+-- the literals up to a level
+abbrev pub set_up_to : List Mark → ℕ → Literals
+set_up_to marks k l = marks_true (mark_of marks l.var) l.neg && nat_le (mark_of marks l.var).level k

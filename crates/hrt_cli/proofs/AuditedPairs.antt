@@ -95,6 +95,7 @@ pub audit_answered : (told : Type 0) (i q : List ℕ) (lists : Lists) (pairs : L
     → IsLoaded told i limit.Pairs lists old mid → ArePairsLoaded told q lists pairs mid new → IsAnswer (audited lists pairs) answer → IsAnswered told (Some (audit i q)) answer old new
 audit_answered told i q lists pairs answer old mid new start loaded read answered = record {
   only_read = then_only_read told old mid new loaded.only_read read.only_read;
+  read_faults = read.read_faults ∙ loaded.read_faults;
   suits = subst (λ (s : Status). IsTrue (is_verdict_of (Some (audit i q)) s)) (sym answered.status) (audit_suits i q (is_weakly_stable lists pairs));
   due = λ t.
       let listed = read.spelled t in (
@@ -109,6 +110,7 @@ pub pairs_rejected : (told : Type 0) (i q : List ℕ) (lists : Lists) (rejection
     → IsLoaded told i limit.Pairs lists old mid → ArePairsRejected told q lists rejection mid new → IsTrue (is_verdict_of (Some (audit i q)) (status_of (rejected rejection))) → IsAnswer (rejected rejection) answer → IsAnswered told (Some (audit i q)) answer old new
 pairs_rejected told i q lists rejection answer old mid new start loaded read suits answered = record {
   only_read = then_only_read told old mid new loaded.only_read read.only_read;
+  read_faults = read.read_faults ∙ loaded.read_faults;
   suits = subst (λ (s : Status). IsTrue (is_verdict_of (Some (audit i q)) s)) (sym answered.status) suits;
   due = λ t.
       let listed = read.due t in (
@@ -124,6 +126,7 @@ pub instance_rejected : (told : Type 0) (i q : List ℕ) (rejection : Rejection)
     → IsRejected told i limit.Pairs rejection old new → IsTrue (is_verdict_of (Some (audit i q)) (status_of (rejected rejection))) → IsAnswer (rejected rejection) answer → IsAnswered told (Some (audit i q)) answer old new
 instance_rejected told i q rejection answer old new start read suits answered = record {
   only_read = read.only_read;
+  read_faults = read.read_faults;
   suits = subst (λ (s : Status). IsTrue (is_verdict_of (Some (audit i q)) s)) (sym answered.status) suits;
   due = λ t.
       let text = read.due t in

@@ -6,7 +6,7 @@ use Rattle.hrt_base.specs.declared.port.Port.{Port}
 use Rattle.hrt_base.specs.declared.port.Port.TheVariants.{Instance, Pairs, Model, Proof, Report, ModelTwo, ProofTwo}
 use Rattle.hrt_base.specs.declared.host.Begun.{Begun}
 use Rattle.hrt_base.specs.declared.host.Begun.TheVariants.{Idle, Reading, Writing}
-use Rattle.hrt_base.specs.Calls.{NotWritten, Sealed, Sent, SentFront, Started}
+use Rattle.hrt_base.specs.Calls.{NotWritten, Sealed, Sent, SentFront, SentSoFar, Started}
 use Rattle.hrt_base.specs.World.{World, Content, appended, put, sealed, started}
 use Rattle.rank_tables.specs.Instance.{Lists}
 use Rattle.opb_text.specs.Spelling.{model_text}
@@ -166,7 +166,7 @@ both_sealed name proof text lines c =
 
 pub are_begun : (told : Type 0) (name proof : List ℕ) (w v u : World) → Started told Model name w v → Started told Proof proof v u → AreBegun told name proof w u
 are_begun told name proof w v u first second = record {
-  later = omega (arith, first.later, second.later);
+  no_fault = record { read_faults = second.read_faults ∙ first.read_faults; write_faults = second.write_faults ∙ first.write_faults };
   begun = second.begun ∙ ap (put Proof Writing) first.begun;
   content = λ t. second.content t ∙ ap (started Proof proof) (first.content t);
 }
@@ -183,7 +183,7 @@ pub one_begun : (told : Type 0) (name : List ℕ) (w v u : World) → Started to
 one_begun told name w v u first failed =
     let begun : u.begun ≡ put Model Writing w.begun = failed.begun ∙ first.begun in
     record {
-      later = omega (arith, first.later, failed.later);
+      later = omega (arith, first.write_faults, failed.later);
       report = ap (λ (f : Port → Begun). f Report) begun;
       readers = λ p reading. model_readers w.begun p (sym (ap (λ (f : Port → Begun). f p) begun) ∙ reading);
       content = λ t. subst (IsWritten [] [] w.content) (sym (failed.content t ∙ first.content t)) (model_started name w.content);
@@ -236,9 +236,12 @@ idle_writers f ProofTwo e = e
 pub model_saved : (told : Type 0) (name text : List ℕ) (w v u x : World) → Started told Model name w v → Sent told Model text v u → Sealed told Model u x → WritesAll told (output Model name text ∷ []) w x
 model_saved told name text w v u x first second third =
     let begun : x.begun ≡ put Model Idle (put Model Writing w.begun) = third.begun ∙ ap (put Model Idle) (second.begun ∙ first.begun) in
+    let read_faults : x.read_faults ≡ w.read_faults = third.read_faults ∙ second.read_faults ∙ first.read_faults in
+    let write_faults : x.write_faults ≡ w.write_faults = third.write_faults ∙ second.write_faults ∙ first.write_faults in
     record {
+      no_fault = record { read_faults = read_faults; write_faults = write_faults };
       writes = record {
-        later = omega (arith, first.later, second.later, third.later);
+        later = omega (arith, write_faults);
         report = ap (λ (f : Port → Begun). f Report) begun;
         readers = λ p reading. idle_readers w.begun p (sym (ap (λ (f : Port → Begun). f p) begun) ∙ reading);
         content = λ t.
@@ -248,14 +251,14 @@ model_saved told name text w v u x first second third =
       writers = λ p writing. idle_writers w.begun p (sym (ap (λ (f : Port → Begun). f p) begun) ∙ writing);
     }
 
-front_sent : (told : Type 0) (name text : List ℕ) (k : ℕ) (w v u : World) → Started told Model name w v → Sent told Model (take k text) v u → WritesFronts told (output Model name text ∷ []) w u
+front_sent : (told : Type 0) (name text : List ℕ) (k : ℕ) (w v u : World) → Started told Model name w v → SentSoFar told Model (take k text) v u → WritesFronts told (output Model name text ∷ []) w u
 front_sent told name text k w v u first second =
     let begun : u.begun ≡ put Model Writing w.begun = second.begun ∙ first.begun in
     record {
       whole = 0;
       count = k;
       writes = record {
-        later = omega (arith, first.later, second.later);
+        later = omega (arith, first.write_faults, second.later);
         report = ap (λ (f : Port → Begun). f Report) begun;
         readers = λ p reading. model_readers w.begun p (sym (ap (λ (f : Port → Begun). f p) begun) ∙ reading);
         content = λ t.
@@ -269,7 +272,7 @@ model_fronts told name text w v u first front = front_sent told name text front.
 -- the text was written whole, and then the host failed to seal it
 pub model_unsealed : (told : Type 0) (name text : List ℕ) (w v u x : World) → Started told Model name w v → Sent told Model text v u → NotWritten told u x → WritesFronts told (output Model name text ∷ []) w x
 model_unsealed told name text w v u x first second failed = front_sent told name text (length text) w v x first (record {
-  later = omega (arith, second.later, failed.later);
+  later = omega (arith, second.write_faults, failed.later);
   read_faults = failed.read_faults ∙ second.read_faults;
   begun = failed.begun ∙ second.begun;
   content = λ t. failed.content t ∙ second.content t ∙ ap (λ (l : List ℕ). appended Model l v.content) (sym (take_all (length text) text (omega arith)));
@@ -279,7 +282,7 @@ model_unsealed told name text w v u x first second failed = front_sent told name
 
 begun_only : (told : Type 0) (name proof : List ℕ) (w v u : World) → AreBegun told name proof w v → u ≡ v → WritesNothing told w u
 begun_only told name proof w v u are same = subst (WritesNothing told w) (sym same) (record {
-  later = are.later;
+  later = omega (arith, are.no_fault.write_faults);
   report = ap (λ (f : Port → Begun). f Report) are.begun;
   readers = λ p reading. begun_readers w.begun p (sym (ap (λ (f : Port → Begun). f p) are.begun) ∙ reading);
   content = λ t. subst (IsWritten [] [] w.content) (sym (are.content t)) (none_sent name proof w.content);
@@ -291,7 +294,7 @@ model_front told name proof text w v u are front =
     let sent = front.front.1 in
     let begun : u.begun ≡ begun_both w.begun = sent.begun ∙ are.begun in
     record {
-      later = omega (arith, are.later, sent.later);
+      later = omega (arith, are.no_fault.write_faults, sent.later);
       report = ap (λ (f : Port → Begun). f Report) begun;
       readers = λ p reading. begun_readers w.begun p (sym (ap (λ (f : Port → Begun). f p) begun) ∙ reading);
       content = λ t.
@@ -307,7 +310,7 @@ proof_front told name proof lists text w v u are behind =
     let model = behind.model in
     let begun : u.begun ≡ put Model Idle (begun_both w.begun) = sent.begun ∙ model.begun ∙ ap (put Model Idle) are.begun in
     record {
-      later = omega (arith, are.later, model.later, sent.later);
+      later = omega (arith, are.no_fault.write_faults, model.write_faults, sent.later);
       report = ap (λ (f : Port → Begun). f Report) begun;
       readers = λ p reading. half_readers w.begun p (sym (ap (λ (f : Port → Begun). f p) begun) ∙ reading);
       content = λ t.
@@ -337,9 +340,12 @@ saved_in_part told Is lists name proof w v u are (inr part) = by part.sent
 written_whole : (told : Type 0) (name proof : List ℕ) (lists : Lists) (text : List ℕ) (w v u : World) → AreBegun told name proof w v → SentBoth told lists text v u → WritesAll told (both name proof lists text) w u
 written_whole told name proof lists text w v u are sent =
     let begun : u.begun ≡ sealed_both w.begun = sent.proof.begun ∙ ap (put Proof Idle) sent.model.begun ∙ ap (λ (f : Port → Begun). put Proof Idle (put Model Idle f)) are.begun in
+    let read_faults : u.read_faults ≡ w.read_faults = sent.proof.read_faults ∙ sent.model.read_faults ∙ are.no_fault.read_faults in
+    let write_faults : u.write_faults ≡ w.write_faults = sent.proof.write_faults ∙ sent.model.write_faults ∙ are.no_fault.write_faults in
     record {
+      no_fault = record { read_faults = read_faults; write_faults = write_faults };
       writes = record {
-        later = omega (arith, are.later, sent.model.later, sent.proof.later);
+        later = omega (arith, write_faults);
         report = ap (λ (f : Port → Begun). f Report) begun;
         readers = λ p reading. sealed_readers w.begun p (sym (ap (λ (f : Port → Begun). f p) begun) ∙ reading);
         content = λ t.

@@ -16,17 +16,18 @@ use Rattle.hrt_solve.specs.Writing.{SentBoth, SentFrontBehind, StopsWriting}
 use Rattle.hrt_inputs.specs.declared.limit.Limit.TheVariants as limit
 use Rattle.hrt_inputs.specs.Inputs.{BeginsAtMost, IsAt}
 use Rattle.hrt_inputs.specs.Loading.{IsLoaded, IsRead}
-use Rattle.hrt_inputs.specs.Taken.{IsTakenAs, formula_in}
+use Rattle.hrt_inputs.specs.Taken.{formula_in}
 use Rattle.hrt_cli.specs.declared.answer.Answer.{Answer}
 use Rattle.hrt_cli.specs.declared.stop.Ended.{Ended}
 use Rattle.hrt_cli.specs.declared.stop.Ended.TheVariants as ended
 use Rattle.hrt_cli.specs.Outputs.{output}
+use Rattle.hrt_cli.specs.Plans.{IsWritePort, model_and_proof}
 use Rattle.hrt_cli.specs.Ports.{BeginsWriting, IsInput, IsModelOrProof, IsOutput, ReadsInputs, WritesOutputs}
 use Rattle.hrt_cli.specs.Requests.{Request, audit, bound, check, model, quick, solve, verify}
 use Rattle.hrt_cli.specs.Writing.{EndsWriting, SavesInPart, SavesProof, WritesAll, WritesInPart}
 use Rattle.hrt_inputs.proofs.Ports.{put_elsewhere}
 use Rattle.hrt_cli.proofs.Runs.{reads_nothing, writes_report}
-use Rattle.hrt_cli.proofs.WrittenOutputs.{is_taken}
+use Rattle.hrt_cli.proofs.Inputs.{instance_taken, model_taken, none_taken}
 use Rattle.hrt_solve.specs.Writing.{SentWhole}
 
 -- ---- a port that one step put in another state
@@ -99,9 +100,6 @@ sent_part_writes told request text old mid new before sent = record { output = �
 
 -- ---- the commands that only read
 
-model_taken : (told : Type 0) (name : List ℕ) (f : Formula) (old new : World) → IsRead told Model name formula_in f old new → told → IsTakenAs formula_in (old.content.file name)
-model_taken told name f old new read t = let text = read.spelled t in record { bytes = text.0; is_file = text.1; value = f; taken = text.2 }
-
 -- from the start one port was read
 pub writes_nothing : (told : Type 0) (request : Option Request) (port : Port) (old new : World) → AtStart told old → BeginsAtMost port old new → WritesOutputs told request old new
 writes_nothing told request port old new start most = writes_as_before told request port old old new (at_start_writes told request old start) most
@@ -111,31 +109,31 @@ pub writes_nothing_yet : (told : Type 0) (request : Option Request) (first secon
 writes_nothing_yet told request first second old mid new start one two = writes_as_before told request second old mid new (writes_nothing told request first old mid start one) two
 
 pub solve_reads : (told : Type 0) (i : List ℕ) (old new : World) → AtStart told old → BeginsAtMost Instance old new → ReadsInputs told (Some (solve i)) old new
-solve_reads told i old new start most = reads_first told (Some (solve i)) Instance old new start most refl
+solve_reads told i old new start most = reads_first told (Some (solve i)) Instance old new start most (inl (refl, λ t. none_taken old.content.file))
 
 pub audit_reads_one : (told : Type 0) (i q : List ℕ) (old new : World) → AtStart told old → BeginsAtMost Instance old new → ReadsInputs told (Some (audit i q)) old new
-audit_reads_one told i q old new start most = reads_first told (Some (audit i q)) Instance old new start most (inl refl)
+audit_reads_one told i q old new start most = reads_first told (Some (audit i q)) Instance old new start most (inl (refl, λ t. none_taken old.content.file))
 
 pub audit_reads_two : (told : Type 0) (i q : List ℕ) (lists : Lists) (old mid new : World) → AtStart told old → BeginsAtMost Instance old mid → IsLoaded told i limit.Pairs lists old mid → BeginsAtMost Pairs mid new
     → ReadsInputs told (Some (audit i q)) old new
 audit_reads_two told i q lists old mid new start one loaded two =
-    reads_next told (Some (audit i q)) Pairs old mid new (audit_reads_one told i q old mid start one) two (inr (refl, is_taken told i lists old mid loaded))
+    reads_next told (Some (audit i q)) Pairs old mid new (audit_reads_one told i q old mid start one) two (inr (inl (refl, instance_taken told i limit.Pairs lists old mid loaded)))
 
 pub verify_reads_one : (told : Type 0) (i p : List ℕ) (old new : World) → AtStart told old → BeginsAtMost Instance old new → ReadsInputs told (Some (verify i p)) old new
-verify_reads_one told i p old new start most = reads_first told (Some (verify i p)) Instance old new start most (inl refl)
+verify_reads_one told i p old new start most = reads_first told (Some (verify i p)) Instance old new start most (inl (refl, λ t. none_taken old.content.file))
 
 pub verify_reads_two : (told : Type 0) (i p : List ℕ) (lists : Lists) (old mid new : World) → AtStart told old → BeginsAtMost Instance old mid → IsLoaded told i limit.Pairs lists old mid → BeginsAtMost Proof mid new
     → ReadsInputs told (Some (verify i p)) old new
 verify_reads_two told i p lists old mid new start one loaded two =
-    reads_next told (Some (verify i p)) Proof old mid new (verify_reads_one told i p old mid start one) two (inr (refl, is_taken told i lists old mid loaded))
+    reads_next told (Some (verify i p)) Proof old mid new (verify_reads_one told i p old mid start one) two (inr (inl (refl, instance_taken told i limit.Pairs lists old mid loaded)))
 
 pub check_reads_one : (told : Type 0) (m p : List ℕ) (old new : World) → AtStart told old → BeginsAtMost Model old new → ReadsInputs told (Some (check m p)) old new
-check_reads_one told m p old new start most = reads_first told (Some (check m p)) Model old new start most (inl refl)
+check_reads_one told m p old new start most = reads_first told (Some (check m p)) Model old new start most (inl (refl, λ t. none_taken old.content.file))
 
 pub check_reads_two : (told : Type 0) (m p : List ℕ) (f : Formula) (old mid new : World) → AtStart told old → BeginsAtMost Model old mid → IsRead told Model m formula_in f old mid → BeginsAtMost Proof mid new
     → ReadsInputs told (Some (check m p)) old new
 check_reads_two told m p f old mid new start one read two =
-    reads_next told (Some (check m p)) Proof old mid new (check_reads_one told m p old mid start one) two (inr (refl, model_taken told m f old mid read))
+    reads_next told (Some (check m p)) Proof old mid new (check_reads_one told m p old mid start one) two (inr (inl (refl, model_taken told m f old mid read)))
 
 -- ---- what is begun for writing, step by step
 
@@ -228,23 +226,23 @@ model_readers told m text r old new = by r
     by (Err ended.NoMemory) saved up = part up
 
 pub model_reads : (told : Type 0) (i m : List ℕ) (old new : World) → AtStart told old → BeginsAtMost Instance old new → ReadsInputs told (Some (model i m)) old new
-model_reads told i m old new start most = reads_first told (Some (model i m)) Instance old new start most refl
+model_reads told i m old new start most = reads_first told (Some (model i m)) Instance old new start most (inl (refl, λ t. none_taken old.content.file))
 
 pub saved_model_reads : (told : Type 0) (i m : List ℕ) (lists : Lists) (r : Result Answer Ended) (old mid new : World) → AtStart told old → BeginsAtMost Instance old mid
     → OnOk r (WritesAll told (output Model m (model_text lists) ∷ []) mid new) → IfErr r (λ why. EndsWriting told (output Model m (model_text lists) ∷ []) why mid new) → ReadsInputs told (Some (model i m)) old new
-saved_model_reads told i m lists r old mid new start most saved up = then_reads told (Some (model i m)) old mid new start most refl (model_readers told m (model_text lists) r mid new saved up)
+saved_model_reads told i m lists r old mid new start most saved up = then_reads told (Some (model i m)) old mid new start most (inl (refl, λ t. none_taken old.content.file)) (model_readers told m (model_text lists) r mid new saved up)
 
 pub saved_model_writes : (told : Type 0) (i m : List ℕ) (lists : Lists) (old mid new : World) → AtStart told old → BeginsAtMost Instance old mid → IsLoaded told i limit.Pairs lists old mid
     → BeginsWriting (IsAt Model) mid new → WritesOutputs told (Some (model i m)) old new
 saved_model_writes told i m lists old mid new start most loaded begins =
-    then_writes told (Some (model i m)) (IsAt Model) old mid new start most begins (λ p is. (is, is_taken told i lists old mid loaded))
+    then_writes told (Some (model i m)) (IsAt Model) old mid new start most begins (λ p is. (inl is, instance_taken told i limit.Pairs lists old mid loaded))
 
 -- a command that writes a model and a proof reads the instance alone
 pub bound_reads : (told : Type 0) (i m p : List ℕ) (old new : World) → AtStart told old → BeginsAtMost Instance old new → ReadsInputs told (Some (bound i m p)) old new
-bound_reads told i m p old new start most = reads_first told (Some (bound i m p)) Instance old new start most refl
+bound_reads told i m p old new start most = reads_first told (Some (bound i m p)) Instance old new start most (inl (refl, λ t. none_taken old.content.file))
 
 pub quick_reads : (told : Type 0) (i m p : List ℕ) (old new : World) → AtStart told old → BeginsAtMost Instance old new → ReadsInputs told (Some (quick i m p)) old new
-quick_reads told i m p old new start most = reads_first told (Some (quick i m p)) Instance old new start most refl
+quick_reads told i m p old new start most = reads_first told (Some (quick i m p)) Instance old new start most (inl (refl, λ t. none_taken old.content.file))
 
 -- where both were written
 pub saved_proof_reads : (told : Type 0) (request : Option Request) (claim : Claim) (lists : Lists) (deleted top : ℕ) (name proof : List ℕ) (old mid new : World) → AtStart told old → BeginsAtMost Instance old mid
@@ -257,12 +255,17 @@ pub part_proof_reads : (told : Type 0) (request : Option Request) (IsText : List
 part_proof_reads told request IsText lists name proof old mid new start most input (inl nothing) = then_reads told request old mid new start most input nothing.readers
 part_proof_reads told request IsText lists name proof old mid new start most input (inr part) = then_reads told request old mid new start most input part.fronts.writes.readers
 
+-- the ports of a model and of a proof
+pub of_both : (m p : List ℕ) (port : Port) → IsModelOrProof port → IsWritePort (model_and_proof m p) port
+of_both m p port (inl e) = inl e
+of_both m p port (inr e) = inr (inl e)
+
 pub bound_writes : (told : Type 0) (i m p : List ℕ) (lists : Lists) (old mid new : World) → AtStart told old → BeginsAtMost Instance old mid → IsLoaded told i limit.Pairs lists old mid
     → BeginsWriting IsModelOrProof mid new → WritesOutputs told (Some (bound i m p)) old new
 bound_writes told i m p lists old mid new start most loaded begins =
-    then_writes told (Some (bound i m p)) IsModelOrProof old mid new start most begins (λ port is. (is, is_taken told i lists old mid loaded))
+    then_writes told (Some (bound i m p)) IsModelOrProof old mid new start most begins (λ port is. (of_both m p port is, instance_taken told i limit.Pairs lists old mid loaded))
 
 pub quick_writes : (told : Type 0) (i m p : List ℕ) (lists : Lists) (old mid new : World) → AtStart told old → BeginsAtMost Instance old mid → IsLoaded told i limit.Pairs lists old mid
     → BeginsWriting IsModelOrProof mid new → WritesOutputs told (Some (quick i m p)) old new
 quick_writes told i m p lists old mid new start most loaded begins =
-    then_writes told (Some (quick i m p)) IsModelOrProof old mid new start most begins (λ port is. (is, is_taken told i lists old mid loaded))
+    then_writes told (Some (quick i m p)) IsModelOrProof old mid new start most begins (λ port is. (of_both m p port is, instance_taken told i limit.Pairs lists old mid loaded))

@@ -4,11 +4,11 @@ use Rattle.std.proofs.Common.{◌≡◌, ◌⊎◌, ℕ, zero, suc, Bool, true, 
 use Rattle.hrt_base.specs.declared.port.Port.{Port}
 use Rattle.hrt_base.specs.declared.port.Port.TheVariants.{Report}
 use Rattle.hrt_base.specs.declared.host.Begun.TheVariants.{Writing}
-use Rattle.hrt_base.specs.Calls.{Rose}
+use Rattle.hrt_base.specs.Calls.{NoFault, Rose}
 use Rattle.hrt_base.specs.World.{World, store}
 use Rattle.promotion_heuristic.specs.Promotion.{promotion}
 use Rattle.rank_tables.specs.Instance.{Lists}
-use Rattle.hrt_reader.specs.Refusal.{Spells}
+use Rattle.hrt_reader.specs.Accepted.{Spells}
 use Rattle.hrt_inputs.specs.declared.limit.Limit.TheVariants.{TriedPairs}
 use Rattle.hrt_inputs.specs.Rejections.{Rejection, refused, exceeded, pairs_refused, model_refused, proof_refused, truncated}
 use Rattle.hrt_inputs.specs.Taken.{lists_in, within}
@@ -16,12 +16,13 @@ use Rattle.hrt_inputs.proofs.ReadInstances.{of_within, spelled}
 use Rattle.hrt_cli.specs.declared.status.Status.{Status}
 use Rattle.hrt_cli.specs.declared.status.Status.TheVariants.{Done, Misused, InstanceRefused, ReadFault, WriteFault, NoMemory, LimitExceeded, ProofRefused, AuditNo, Bounded, PairsRefused}
 use Rattle.hrt_cli.specs.Answers.{IsCutShort, LeavesFronts, SendsDue, SendsNothing}
-use Rattle.hrt_cli.specs.Outputs.{Output, SendsAll, files_after, is_output_name, model_outputs, outputs_of, proof_outputs}
+use Rattle.hrt_cli.specs.Outputs.{Output, SendsAll, files_after, is_output_name, outputs_of, outputs_with, texts_of}
 use Rattle.hrt_cli.specs.Reports.{IsReport}
-use Rattle.hrt_cli.specs.Requests.{Request, solve, audit, model, verify, check, bound, quick}
+use Rattle.hrt_cli.specs.Requests.{Request, solve}
 use Rattle.hrt_cli.specs.Runs.{EndsAs, IsDecided, IsDue, IsReported, Reported, KeepsFiles, KeepsOtherFiles, PrintsBest, has_report, is_code_of, keeps_files}
 use Rattle.hrt_cli.specs.Statuses.{code_of, status_of}
-use Rattle.hrt_cli.specs.Verdicts.{ComesTo, Files, Verdict, misused, rejected, solved, audited, modeled, verified, checked, bounded, matched, due as due_for, solve_verdict}
+use Rattle.hrt_cli.specs.Plans.{Files, Named, is_named, plan_of}
+use Rattle.hrt_cli.specs.Verdicts.{ComesTo, Verdict, misused, rejected, solved, audited, modeled, verified, checked, bounded, matched, due as due_for, solve_verdict}
 use Rattle.hrt_cli.proofs.NamedOutputs.{not_stored}
 use Rattle.hrt_cli.proofs.OneVerdict.{one_told, some_is}
 
@@ -143,6 +144,9 @@ pub closed : (told : Type 0) (request : Option Request) (status : Status) (old n
     → (port : Port) → new.begun port ≡ Writing → ⊥
 closed told request status old new ends has = (reported told request status old new ends has).closed
 
+pub no_fault : (told : Type 0) (request : Option Request) (status : Status) (old new : World) → EndsAs told request status old new → has_report (code_of status) ≡ true → NoFault old new
+no_fault told request status old new ends has = (reported told request status old new ends has).no_fault
+
 -- without a rise of the counts of faults there is a report, or memory was wanting
 pub reported_or : (told : Type 0) (request : Option Request) (status : Status) (old new : World) → EndsAs told request status old new
     → (Rose old.read_faults new.read_faults → ⊥) → (Rose old.write_faults new.write_faults → ⊥) → Reported told request status old new ⊎ (code_of status ≡ 6)
@@ -198,42 +202,31 @@ understood_code told request NoMemory old new ends e = absurd (ends.understood e
 abbrev no_outputs : List Output
 no_outputs = []
 
--- nothing is written for a verdict without a matching or a model
-model_unwritten : (name : List ℕ) (verdict : Verdict) → (status_of verdict ≡ Done → ⊥) → model_outputs name verdict ≡ no_outputs
-model_unwritten name misused other = refl
-model_unwritten name (rejected rejection) other = refl
-model_unwritten name (solved lists) other = refl
-model_unwritten name (audited lists pairs) other = refl
-model_unwritten name (verified claim) other = refl
-model_unwritten name (checked claim) other = refl
-model_unwritten name (bounded lists deleted top text) other = refl
-model_unwritten name (matched lists deleted top text) other = refl
-model_unwritten name (modeled lists) other = absurd (other refl)
+abbrev no_texts : List (List ℕ)
+no_texts = []
 
 done_or_bounded : (b : Bool) → (cond b Done Bounded ≡ Done → ⊥) → (cond b Done Bounded ≡ Bounded → ⊥) → ⊥
 done_or_bounded true other open_too = other refl
 done_or_bounded false other open_too = open_too refl
 
-proof_unwritten : (name proof : List ℕ) (verdict : Verdict) → (status_of verdict ≡ Done → ⊥) → (status_of verdict ≡ Bounded → ⊥) → proof_outputs name proof verdict ≡ no_outputs
-proof_unwritten name proof misused other open_too = refl
-proof_unwritten name proof (rejected rejection) other open_too = refl
-proof_unwritten name proof (solved lists) other open_too = refl
-proof_unwritten name proof (audited lists pairs) other open_too = refl
-proof_unwritten name proof (modeled lists) other open_too = refl
-proof_unwritten name proof (verified claim) other open_too = refl
-proof_unwritten name proof (checked claim) other open_too = refl
-proof_unwritten name proof (bounded lists deleted top text) other open_too = absurd (other refl)
-proof_unwritten name proof (matched lists deleted top text) other open_too = absurd (done_or_bounded (length (promotion lists) == top) other open_too)
+-- no text is due for a verdict without a matching or a model
+unwritten : (verdict : Verdict) → (status_of verdict ≡ Done → ⊥) → (status_of verdict ≡ Bounded → ⊥) → texts_of verdict ≡ no_texts
+unwritten misused other open_too = refl
+unwritten (rejected rejection) other open_too = refl
+unwritten (solved lists) other open_too = refl
+unwritten (audited lists pairs) other open_too = refl
+unwritten (verified claim) other open_too = refl
+unwritten (checked claim) other open_too = refl
+unwritten (modeled lists) other open_too = absurd (other refl)
+unwritten (bounded lists deleted top text) other open_too = absurd (other refl)
+unwritten (matched lists deleted top text) other open_too = absurd (done_or_bounded (length (promotion lists) == top) other open_too)
+
+without_texts : (outputs : List Named) → outputs_with outputs [] ≡ no_outputs
+without_texts [] = refl
+without_texts (o ∷ outputs) = refl
 
 none_written : (request : Option Request) (verdict : Verdict) → (status_of verdict ≡ Done → ⊥) → (status_of verdict ≡ Bounded → ⊥) → outputs_of request verdict ≡ no_outputs
-none_written None verdict other open_too = refl
-none_written (Some (solve instance)) verdict other open_too = refl
-none_written (Some (audit instance pairs)) verdict other open_too = refl
-none_written (Some (verify instance proof)) verdict other open_too = refl
-none_written (Some (check file proof)) verdict other open_too = refl
-none_written (Some (model instance file)) verdict other open_too = model_unwritten file verdict other
-none_written (Some (bound instance file proof)) verdict other open_too = proof_unwritten file proof verdict other open_too
-none_written (Some (quick instance file proof)) verdict other open_too = proof_unwritten file proof verdict other open_too
+none_written request verdict other open_too = ap (outputs_with (plan_of request).outputs) (unwritten verdict other open_too) ∙ without_texts (plan_of request).outputs
 
 kept_unwritten : (request : Option Request) (status : Status) (old new : World) → (status ≡ Done → ⊥) → (status ≡ Bounded → ⊥) → IsReported request status old new → KeepsFiles old.content new.content
 kept_unwritten request status old new other open_too told_of name =
@@ -263,39 +256,14 @@ neither : (a b : Bool) → (a || b) ≡ false → (a ≡ false) × (b ≡ false)
 neither true b e = absurd (cc)
 neither false b e = (refl, e)
 
-model_unnamed : (file : List ℕ) (verdict : Verdict) (name : List ℕ) → bytes_eq name file ≡ false → NoneNamed name (model_outputs file verdict)
-model_unnamed file misused name e = tt
-model_unnamed file (rejected rejection) name e = tt
-model_unnamed file (solved lists) name e = tt
-model_unnamed file (audited lists pairs) name e = tt
-model_unnamed file (verified claim) name e = tt
-model_unnamed file (checked claim) name e = tt
-model_unnamed file (bounded lists deleted top text) name e = tt
-model_unnamed file (matched lists deleted top text) name e = tt
-model_unnamed file (modeled lists) name e = (e, tt)
-
-proof_unnamed : (file proof : List ℕ) (verdict : Verdict) (name : List ℕ) → bytes_eq name file ≡ false → bytes_eq name proof ≡ false → NoneNamed name (proof_outputs file proof verdict)
-proof_unnamed file proof misused name e f = tt
-proof_unnamed file proof (rejected rejection) name e f = tt
-proof_unnamed file proof (solved lists) name e f = tt
-proof_unnamed file proof (audited lists pairs) name e f = tt
-proof_unnamed file proof (modeled lists) name e f = tt
-proof_unnamed file proof (verified claim) name e f = tt
-proof_unnamed file proof (checked claim) name e f = tt
-proof_unnamed file proof (bounded lists deleted top text) name e f = (e, (f, tt))
-proof_unnamed file proof (matched lists deleted top text) name e f = (e, (f, tt))
+unnamed_by : (outputs : List Named) (texts : List (List ℕ)) (name : List ℕ) → is_named outputs name ≡ false → NoneNamed name (outputs_with outputs texts)
+unnamed_by [] texts name e = tt
+unnamed_by (o ∷ outputs) [] name e = tt
+unnamed_by (o ∷ outputs) (text ∷ texts) name e =
+    let apart = neither (bytes_eq name o.name) (is_named outputs name) e in (apart.0, unnamed_by outputs texts name apart.1)
 
 unnamed : (request : Option Request) (verdict : Verdict) (name : List ℕ) → is_output_name request name ≡ false → NoneNamed name (outputs_of request verdict)
-unnamed None verdict name e = tt
-unnamed (Some (solve instance)) verdict name e = tt
-unnamed (Some (audit instance pairs)) verdict name e = tt
-unnamed (Some (verify instance proof)) verdict name e = tt
-unnamed (Some (check file proof)) verdict name e = tt
-unnamed (Some (model instance file)) verdict name e = model_unnamed file verdict name e
-unnamed (Some (bound instance file proof)) verdict name e =
-    let apart = neither (bytes_eq name file) (bytes_eq name proof) e in proof_unnamed file proof verdict name apart.0 apart.1
-unnamed (Some (quick instance file proof)) verdict name e =
-    let apart = neither (bytes_eq name file) (bytes_eq name proof) e in proof_unnamed file proof verdict name apart.0 apart.1
+unnamed request verdict name e = unnamed_by (plan_of request).outputs (texts_of verdict) name e
 
 -- a file that no output names
 kept_else : (outputs : List Output) (files : Files) (name : List ℕ) → NoneNamed name outputs → files_after outputs files name ≡ files name

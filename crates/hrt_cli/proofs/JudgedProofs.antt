@@ -26,7 +26,8 @@ use Rattle.hrt_cli.specs.declared.status.Status.{Status}
 use Rattle.hrt_cli.specs.declared.stop.Ended.{Ended}
 use Rattle.hrt_cli.specs.Answers.{Explains, IsAnswer, IsAnswered, is_verdict_of, judges_proof}
 use Rattle.hrt_cli.specs.Requests.{Request, check, verify}
-use Rattle.hrt_cli.specs.Verdicts.{ComesTo, Files, OnFiles, OnFormula, ProofComesTo, Verdict, checked, on_verdict, rejected, verified}
+use Rattle.hrt_cli.specs.Plans.{Files}
+use Rattle.hrt_cli.specs.Verdicts.{ComesTo, OnFiles, OnFormula, ProofComesTo, Verdict, checked, on_verdict, rejected, verified}
 use Rattle.hrt_cli.specs.Statuses.{status_of}
 use Rattle.hrt_cli.proofs.ReadOut.{passed_as, reads_one, reads_two, then_only_read}
 
@@ -97,6 +98,7 @@ task_judged : (told : Type 0) (task : Task) (f : Formula) (judged : text.Verdict
     → IsProofJudged told task.proof f judged mid new → IsAnswer (on_verdict task.done judged) answer → IsAnswered told task.request answer old new
 task_judged told task f judged answer old mid new start read proof answered = record {
   only_read = then_only_read told old mid new read.only_read proof.only_read;
+  read_faults = proof.read_faults ∙ read.read_faults;
   suits = subst (λ (s : Status). IsTrue (is_verdict_of task.request s)) (sym answered.status) (verdict_suits task judged);
   due = λ t.
       let text = proof.judged t in (
@@ -111,6 +113,7 @@ task_too_long : (told : Type 0) (task : Task) (f : Formula) (answer : Answer) (o
     → IsTooLong told Proof task.proof (most limit.ProofBytes) mid new → IsAnswer (rejected (exceeded limit.ProofBytes)) answer → IsAnswered told task.request answer old new
 task_too_long told task f answer old mid new start read long answered = record {
   only_read = then_only_read told old mid new read.only_read long.only_read;
+  read_faults = long.read_faults ∙ read.read_faults;
   suits = subst (λ (s : Status). IsTrue (is_verdict_of task.request s)) (sym answered.status) task.asks;
   due = λ t.
       let text = long.file t in (
@@ -154,6 +157,7 @@ proof_accepted told task f claim (Err why) old mid new start read judged answere
 pub loaded_read : (told : Type 0) (i : List ℕ) (lists : Lists) (old mid : World) → IsLoaded told i limit.Pairs lists old mid → IsRead told Instance i formula_of_instance (formula lists) old mid
 loaded_read told i lists old mid loaded = record {
   only_read = loaded.only_read;
+  read_faults = loaded.read_faults;
   begun = loaded.begun;
   content = loaded.content;
   spelled = λ t. let text = loaded.spelled t in (text.0, text.1, ap model_of text.2);
@@ -172,6 +176,7 @@ verify_rejected : (told : Type 0) (i p : List ℕ) (rejection : Rejection) (answ
     → IsTrue (is_verdict_of (Some (verify i p)) (status_of (rejected rejection))) → IsAnswer (rejected rejection) answer → IsAnswered told (Some (verify i p)) answer old new
 verify_rejected told i p rejection answer old new start read suits answered = record {
   only_read = read.only_read;
+  read_faults = read.read_faults;
   suits = subst (λ (s : Status). IsTrue (is_verdict_of (Some (verify i p)) s)) (sym answered.status) suits;
   due = λ t.
       let text = read.due t in

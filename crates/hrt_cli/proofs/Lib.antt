@@ -2,6 +2,7 @@ mod AuditedPairs
 mod BegunOutputs
 mod BegunPorts
 mod Codes
+mod Inputs
 mod JudgedProofs
 mod NamedOutputs
 mod OneVerdict

@@ -5,7 +5,7 @@ use Rattle.std.proofs.lemmas.Bool.Decides.{nat_tests}
 use Rattle.hrt_base.specs.World.{store}
 use Rattle.hrt_text.proofs.Among.{bytes_eq-same}
 use Rattle.hrt_cli.specs.Requests.{Request, ThreeFiles, TwoFiles, audit, bound, check, is_file_name, model, one_file, quick, request_of, solve, three, three_files, two, two_files, verify}
-use Rattle.hrt_cli.specs.Verdicts.{Files}
+use Rattle.hrt_cli.specs.Plans.{Files}
 
 -- ---- good names
 

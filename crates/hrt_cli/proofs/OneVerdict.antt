@@ -15,7 +15,8 @@ use Rattle.hrt_inputs.specs.Taken.{formula_in, formula_of_instance, lists_in, of
 use Rattle.hrt_inputs.specs.declared.limit.Limit.TheVariants as limit
 use Rattle.hrt_cli.specs.Reports.{IsReport}
 use Rattle.hrt_cli.specs.Requests.{Request, audit, bound, check, model, quick, solve, verify}
-use Rattle.hrt_cli.specs.Verdicts.{BoundDue, ComesTo, Files, IsJudgedAs, MatchDue, OnFiles, OnFormula, OnInstance, OnLists, ProofComesTo, ProofDue, Verdict, bounded, checked, first_claim, matched, on_verdict, verified}
+use Rattle.hrt_cli.specs.Plans.{Files}
+use Rattle.hrt_cli.specs.Verdicts.{BoundDue, ComesTo, IsJudgedAs, MatchDue, OnFiles, OnFormula, OnInstance, OnLists, ProofComesTo, ProofDue, Verdict, bounded, checked, first_claim, matched, on_verdict, verified}
 use Rattle.hrt_cli.specs.Statuses.{status_of}
 
 pub some_is : {A : Type 0} (a b : A) → Some a ≡ Some b → a ≡ b

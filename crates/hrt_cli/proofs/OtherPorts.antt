@@ -1,8 +1,9 @@
 -- What a command leaves of the ports that aren't its own.
-use Rattle.std.proofs.Common.{◌≡◌, ◌⊎◌, ℕ, List, [], ◌++◌, Option, Some, None, ◌∙◌, ap, inl, inr}
+use Rattle.std.proofs.Common.{◌≡◌, ◌⊎◌, ℕ, List, [], ◌++◌, Option, Some, ◌∙◌, ap, inl, inr}
 use Rattle.hrt_base.specs.declared.port.Port.{Port}
 use Rattle.hrt_base.specs.declared.port.Port.TheVariants.{Instance, Pairs, Model, Proof, Report}
-use Rattle.hrt_base.specs.Calls.{NotWritten, Sealed, Sent, SentFront, SentPart, Started}
+use Rattle.hrt_base.specs.Calls.{NotWritten, Sealed, Sent, SentFront, SentPart, SentSoFar, Started}
+use Rattle.hrt_base.proofs.Pieces.{sent_so_far}
 use Rattle.hrt_base.specs.World.{World, Content}
 use Rattle.rank_tables.specs.Instance.{Lists}
 use Rattle.opb_text.specs.Spelling.{model_text}
@@ -12,6 +13,7 @@ use Rattle.hrt_solve.specs.Writing.{IsBounded, IsSolvedQuickly, SentBoth, SentFr
 use Rattle.hrt_inputs.specs.Inputs.{IsAt, KeepsPorts}
 use Rattle.hrt_inputs.proofs.KeptPorts.{keeps_all, keeps_fewer, keeps_same, keeps_then, put_at_others}
 use Rattle.hrt_cli.specs.Ports.{IsModelOrProof, IsPortOf, KeepsOtherPorts}
+use Rattle.hrt_cli.proofs.BegunPorts.{of_both}
 use Rattle.hrt_cli.specs.Requests.{Request, solve, audit, model, verify, check, bound, quick}
 
 -- ---- commands that only read
@@ -22,25 +24,25 @@ then_at : (told : Type 0) (First Then But : Port → Type 0) (old mid new : Worl
 then_at told First Then But old mid new f g a b = keeps_then told But old mid new (keeps_fewer told First But old mid f a) (keeps_fewer told Then But mid new g b)
 
 pub solve_keeps : (told : Type 0) (i : List ℕ) (old new : World) → KeepsPorts told (IsAt Instance) old new → KeepsOtherPorts told (Some (solve i)) old new
-solve_keeps told i old new a = record { others = keeps_fewer told (IsAt Instance) (IsPortOf (Some (solve i))) old new (λ p e. inl e) a }
+solve_keeps told i old new a = record { others = keeps_fewer told (IsAt Instance) (IsPortOf (Some (solve i))) old new (λ p e. inl (inl e)) a }
 
 pub audit_keeps_one : (told : Type 0) (i q : List ℕ) (old new : World) → KeepsPorts told (IsAt Instance) old new → KeepsOtherPorts told (Some (audit i q)) old new
-audit_keeps_one told i q old new a = record { others = keeps_fewer told (IsAt Instance) (IsPortOf (Some (audit i q))) old new (λ p e. inl e) a }
+audit_keeps_one told i q old new a = record { others = keeps_fewer told (IsAt Instance) (IsPortOf (Some (audit i q))) old new (λ p e. inl (inl e)) a }
 
 pub audit_keeps_two : (told : Type 0) (i q : List ℕ) (old mid new : World) → KeepsPorts told (IsAt Instance) old mid → KeepsPorts told (IsAt Pairs) mid new → KeepsOtherPorts told (Some (audit i q)) old new
-audit_keeps_two told i q old mid new a b = record { others = then_at told (IsAt Instance) (IsAt Pairs) (IsPortOf (Some (audit i q))) old mid new (λ p e. inl e) (λ p e. inr (inl e)) a b }
+audit_keeps_two told i q old mid new a b = record { others = then_at told (IsAt Instance) (IsAt Pairs) (IsPortOf (Some (audit i q))) old mid new (λ p e. inl (inl e)) (λ p e. inl (inr (inl e))) a b }
 
 pub verify_keeps_one : (told : Type 0) (i q : List ℕ) (old new : World) → KeepsPorts told (IsAt Instance) old new → KeepsOtherPorts told (Some (verify i q)) old new
-verify_keeps_one told i q old new a = record { others = keeps_fewer told (IsAt Instance) (IsPortOf (Some (verify i q))) old new (λ p e. inl e) a }
+verify_keeps_one told i q old new a = record { others = keeps_fewer told (IsAt Instance) (IsPortOf (Some (verify i q))) old new (λ p e. inl (inl e)) a }
 
 pub verify_keeps_two : (told : Type 0) (i q : List ℕ) (old mid new : World) → KeepsPorts told (IsAt Instance) old mid → KeepsPorts told (IsAt Proof) mid new → KeepsOtherPorts told (Some (verify i q)) old new
-verify_keeps_two told i q old mid new a b = record { others = then_at told (IsAt Instance) (IsAt Proof) (IsPortOf (Some (verify i q))) old mid new (λ p e. inl e) (λ p e. inr (inl e)) a b }
+verify_keeps_two told i q old mid new a b = record { others = then_at told (IsAt Instance) (IsAt Proof) (IsPortOf (Some (verify i q))) old mid new (λ p e. inl (inl e)) (λ p e. inl (inr (inl e))) a b }
 
 pub check_keeps_one : (told : Type 0) (m q : List ℕ) (old new : World) → KeepsPorts told (IsAt Model) old new → KeepsOtherPorts told (Some (check m q)) old new
-check_keeps_one told m q old new a = record { others = keeps_fewer told (IsAt Model) (IsPortOf (Some (check m q))) old new (λ p e. inl e) a }
+check_keeps_one told m q old new a = record { others = keeps_fewer told (IsAt Model) (IsPortOf (Some (check m q))) old new (λ p e. inl (inl e)) a }
 
 pub check_keeps_two : (told : Type 0) (m q : List ℕ) (old mid new : World) → KeepsPorts told (IsAt Model) old mid → KeepsPorts told (IsAt Proof) mid new → KeepsOtherPorts told (Some (check m q)) old new
-check_keeps_two told m q old mid new a b = record { others = then_at told (IsAt Model) (IsAt Proof) (IsPortOf (Some (check m q))) old mid new (λ p e. inl e) (λ p e. inr (inl e)) a b }
+check_keeps_two told m q old mid new a b = record { others = then_at told (IsAt Model) (IsAt Proof) (IsPortOf (Some (check m q))) old mid new (λ p e. inl (inl e)) (λ p e. inl (inr (inl e))) a b }
 
 -- ---- writing
 
@@ -54,7 +56,7 @@ started_keeps told port name old new begun = record {
   sent = λ t p other. ap (λ (c : Content). c.sent p) (begun.content t) ∙ put_at_others port [] old.content.sent p other;
 }
 
-sent_keeps : (told : Type 0) (port : Port) (bytes : List ℕ) (old new : World) → Sent told port bytes old new → KeepsPorts told (IsAt port) old new
+sent_keeps : (told : Type 0) (port : Port) (bytes : List ℕ) (old new : World) → SentSoFar told port bytes old new → KeepsPorts told (IsAt port) old new
 sent_keeps told port bytes old new sent = record {
   name = λ t p other. ap (λ (c : Content). c.name p) (sent.content t);
   rest = λ t p other. ap (λ (c : Content). c.rest p) (sent.content t);
@@ -83,17 +85,17 @@ begun_front_keeps told port name text old mid new begun sent =
 
 pub begun_unsealed_keeps : (told : Type 0) (port : Port) (name text : List ℕ) (old mid far new : World) → Started told port name old mid → Sent told port text mid far → NotWritten told far new → KeepsPorts told (IsAt port) old new
 begun_unsealed_keeps told port name text old mid far new begun sent not =
-    keeps_then told (IsAt port) old far new (keeps_then told (IsAt port) old mid far (started_keeps told port name old mid begun) (sent_keeps told port text mid far sent)) (not_written_keeps told (IsAt port) far new not)
+    keeps_then told (IsAt port) old far new (keeps_then told (IsAt port) old mid far (started_keeps told port name old mid begun) (sent_keeps told port text mid far (sent_so_far told port text mid far sent))) (not_written_keeps told (IsAt port) far new not)
 
 pub begun_sealed_keeps : (told : Type 0) (port : Port) (name text : List ℕ) (old mid far new : World) → Started told port name old mid → Sent told port text mid far → Sealed told port far new → KeepsPorts told (IsAt port) old new
 begun_sealed_keeps told port name text old mid far new begun sent shut =
-    keeps_then told (IsAt port) old far new (keeps_then told (IsAt port) old mid far (started_keeps told port name old mid begun) (sent_keeps told port text mid far sent)) (sealed_keeps told (IsAt port) port far new shut)
+    keeps_then told (IsAt port) old far new (keeps_then told (IsAt port) old mid far (started_keeps told port name old mid begun) (sent_keeps told port text mid far (sent_so_far told port text mid far sent))) (sealed_keeps told (IsAt port) port far new shut)
 
 pub model_keeps_one : (told : Type 0) (i m : List ℕ) (old new : World) → KeepsPorts told (IsAt Instance) old new → KeepsOtherPorts told (Some (model i m)) old new
-model_keeps_one told i m old new a = record { others = keeps_fewer told (IsAt Instance) (IsPortOf (Some (model i m))) old new (λ p e. inl e) a }
+model_keeps_one told i m old new a = record { others = keeps_fewer told (IsAt Instance) (IsPortOf (Some (model i m))) old new (λ p e. inl (inl e)) a }
 
 pub model_keeps_two : (told : Type 0) (i m : List ℕ) (old mid new : World) → KeepsPorts told (IsAt Instance) old mid → KeepsPorts told (IsAt Model) mid new → KeepsOtherPorts told (Some (model i m)) old new
-model_keeps_two told i m old mid new a b = record { others = then_at told (IsAt Instance) (IsAt Model) (IsPortOf (Some (model i m))) old mid new (λ p e. inl e) (λ p e. inr (inl e)) a b }
+model_keeps_two told i m old mid new a b = record { others = then_at told (IsAt Instance) (IsAt Model) (IsPortOf (Some (model i m))) old mid new (λ p e. inl (inl e)) (λ p e. inr (inl (inl e))) a b }
 
 -- ---- the model and a proof
 
@@ -129,29 +131,22 @@ pub stopped_keeps : (told : Type 0) (Is : List ℕ → Type 0) (lists : Lists) (
 stopped_keeps told Is lists old mid new a stops = keeps_then told IsModelOrProof old mid new a (stopped_writing told Is lists mid new stops)
 
 pub bound_keeps_one : (told : Type 0) (i m q : List ℕ) (old new : World) → KeepsPorts told (IsAt Instance) old new → KeepsOtherPorts told (Some (bound i m q)) old new
-bound_keeps_one told i m q old new a = record { others = keeps_fewer told (IsAt Instance) (IsPortOf (Some (bound i m q))) old new (λ p e. inl e) a }
+bound_keeps_one told i m q old new a = record { others = keeps_fewer told (IsAt Instance) (IsPortOf (Some (bound i m q))) old new (λ p e. inl (inl e)) a }
 
 pub bound_keeps_two : (told : Type 0) (i m q : List ℕ) (old mid new : World) → KeepsPorts told (IsAt Instance) old mid → KeepsPorts told IsModelOrProof mid new → KeepsOtherPorts told (Some (bound i m q)) old new
-bound_keeps_two told i m q old mid new a b = record { others = then_at told (IsAt Instance) IsModelOrProof (IsPortOf (Some (bound i m q))) old mid new (λ p e. inl e) (λ p e. inr (inl e)) a b }
+bound_keeps_two told i m q old mid new a b = record { others = then_at told (IsAt Instance) IsModelOrProof (IsPortOf (Some (bound i m q))) old mid new (λ p e. inl (inl e)) (λ p e. inr (inl (of_both m q p e))) a b }
 
 pub quick_keeps_one : (told : Type 0) (i m q : List ℕ) (old new : World) → KeepsPorts told (IsAt Instance) old new → KeepsOtherPorts told (Some (quick i m q)) old new
-quick_keeps_one told i m q old new a = record { others = keeps_fewer told (IsAt Instance) (IsPortOf (Some (quick i m q))) old new (λ p e. inl e) a }
+quick_keeps_one told i m q old new a = record { others = keeps_fewer told (IsAt Instance) (IsPortOf (Some (quick i m q))) old new (λ p e. inl (inl e)) a }
 
 pub quick_keeps_two : (told : Type 0) (i m q : List ℕ) (old mid new : World) → KeepsPorts told (IsAt Instance) old mid → KeepsPorts told IsModelOrProof mid new → KeepsOtherPorts told (Some (quick i m q)) old new
-quick_keeps_two told i m q old mid new a b = record { others = then_at told (IsAt Instance) IsModelOrProof (IsPortOf (Some (quick i m q))) old mid new (λ p e. inl e) (λ p e. inr (inl e)) a b }
+quick_keeps_two told i m q old mid new a b = record { others = then_at told (IsAt Instance) IsModelOrProof (IsPortOf (Some (quick i m q))) old mid new (λ p e. inl (inl e)) (λ p e. inr (inl (of_both m q p e))) a b }
 
 -- ---- the report
 
 -- the report is a port of whatever is asked
 report_is : (request : Option Request) (p : Port) → p ≡ Report → IsPortOf request p
-report_is None p e = e
-report_is (Some (solve i)) p e = inr e
-report_is (Some (audit i q)) p e = inr (inr e)
-report_is (Some (model i m)) p e = inr (inr e)
-report_is (Some (verify i q)) p e = inr (inr e)
-report_is (Some (check m q)) p e = inr (inr e)
-report_is (Some (bound i m q)) p e = inr (inr e)
-report_is (Some (quick i m q)) p e = inr (inr e)
+report_is request p e = inr (inr e)
 
 pub report_sent_keeps : (told : Type 0) (request : Option Request) (text : List ℕ) (old mid new : World) → KeepsOtherPorts told request old mid → SentWhole told Report text mid new → KeepsOtherPorts told request old new
 report_sent_keeps told request text old mid new a sent =

@@ -8,8 +8,8 @@ use Rattle.rank_tables.specs.Instance.{Lists}
 use Rattle.rank_tables.specs.Stability.{is_weakly_stable}
 use Rattle.rank_tables.specs.WellFormed.{IsWellFormed}
 use Rattle.hrt_text.specs.Text.{rows}
-use Rattle.hrt_reader.specs.Refusal.{Spells}
-use Rattle.hrt_reader.proofs.AcceptedLists.{accepted_well_formed}
+use Rattle.hrt_reader.specs.Accepted.{Spells}
+use Rattle.hrt_reader.proofs.Unrefused.{spelled_well_formed}
 use Rattle.opb_text.specs.Spelling.{model_text}
 use Rattle.promotion_heuristic.specs.Promotion.{promotion}
 use Rattle.promotion_heuristic.proofs.Stable.{promotion-stable}
@@ -94,7 +94,7 @@ first_most lists text top proof m stable = within_top (length m) top ((verified_
 
 -- the promotion's pairs of an instance that is spelled
 promoted_stable : (bytes : List ℕ) (lists : Lists) → Spells bytes lists → IsTrue (is_weakly_stable lists (promotion lists))
-promoted_stable bytes lists spelled = promotion-stable lists (subst IsWellFormed spelled.says (accepted_well_formed (rows bytes) spelled.accepted))
+promoted_stable bytes lists spelled = promotion-stable lists (spelled_well_formed bytes lists spelled)
 
 -- ---- a bound
 

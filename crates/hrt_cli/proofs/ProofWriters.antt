@@ -1,5 +1,5 @@
 -- What the commands that write a model and a proof of it come to.
-use Rattle.std.proofs.Common.{◌≡◌, ◌==◌, ℕ, Bool, true, false, cond, List, ◌++◌, length, flat_map, codes, Option, Some, Result, Ok, Err, IfErr, IfOk, IsTrue, refl, sym, ◌∙◌, ap, subst, inl, inr}
+use Rattle.std.proofs.Common.{◌≡◌, ◌==◌, ℕ, Bool, true, false, cond, List, [], ◌∷◌, ◌++◌, length, flat_map, codes, Option, Some, Result, Ok, Err, IfErr, IfOk, IsTrue, refl, sym, ◌∙◌, ap, subst, inl, inr}
 use Rattle.std.proofs.lemmas.List.{length-map}
 use Rattle.hrt_base.specs.declared.failure.WriteEnd.{WriteEnd}
 use Rattle.hrt_base.specs.declared.failure.WriteEnd.TheVariants as end
@@ -15,7 +15,7 @@ use Rattle.hrt_solve.specs.Gauged.{AreNumbersOf, bound_claim}
 use Rattle.hrt_solve.specs.Writing.{IsBoundText, IsProof, IsQuickEnd, IsQuickText}
 use Rattle.hrt_inputs.specs.declared.limit.Limit.TheVariants as limit
 use Rattle.hrt_inputs.specs.Loading.{IsLoaded}
-use Rattle.hrt_inputs.specs.Taken.{IsTaken, taken_lists}
+use Rattle.hrt_inputs.specs.Taken.{taken_lists}
 use Rattle.hrt_inputs.specs.Rejections.{Rejection}
 use Rattle.hrt_cli.specs.declared.answer.Answer.{Answer}
 use Rattle.hrt_cli.specs.declared.status.Status.TheVariants as status
@@ -25,7 +25,8 @@ use Rattle.hrt_cli.specs.Answers.{EndsEarly, HasOutputs, IsAnswer, IsWorked, Lea
 use Rattle.hrt_cli.specs.Outputs.{Output, both, outputs_of}
 use Rattle.hrt_cli.specs.Reports.{count_line, end_lines, found_lines, last_line, line, pair_line}
 use Rattle.hrt_cli.specs.Requests.{Request, bound, quick}
-use Rattle.hrt_cli.specs.Verdicts.{BoundDue, ComesTo, Files, MatchDue, OnInstance, OnLists, ProofDue, Verdict, bounded, first_claim, matched, rejected}
+use Rattle.hrt_cli.specs.Plans.{AreTaken, Files, instance_in}
+use Rattle.hrt_cli.specs.Verdicts.{BoundDue, ComesTo, MatchDue, OnInstance, OnLists, ProofDue, Verdict, bounded, first_claim, matched, rejected}
 use Rattle.hrt_cli.specs.Statuses.{status_of}
 use Rattle.hrt_cli.specs.Writing.{SavesFronts, SavesInPart, SavesProof, WritesAll, WritesFronts, ended_by}
 use Rattle.hrt_cli.proofs.WrittenOutputs.{Writer, nothing_left, outputs_end, outputs_left, outputs_worked}
@@ -43,7 +44,7 @@ pub record Prover : Type 0 where
   pub is_done : (lists : Lists) (deleted top : ℕ) (text : List ℕ) → IsTrue (is_verdict_of request (status_of (done lists deleted top text)))
   pub comes_to : (files : Files) (verdict : Verdict) → OnInstance (λ lists v. ProofDue (claim lists) (done lists) lists v) (files instance) verdict → ComesTo request files verdict
   pub outputs : (lists : Lists) (deleted top : ℕ) (text : List ℕ) → outputs_of request (done lists deleted top text) ≡ both name proof lists text
-  pub has_outputs : (files : Files) → IsTaken (files instance) → HasOutputs request files
+  pub has_outputs : (files : Files) → AreTaken (instance_in instance ∷ []) files → HasOutputs request files
 
 abbrev pub bounding : List ℕ → List ℕ → List ℕ → Prover
 bounding i m p = record {
@@ -56,7 +57,7 @@ bounding i m p = record {
   is_done = λ lists deleted top text. refl;
   comes_to = λ files verdict on. on;
   outputs = λ lists deleted top text. refl;
-  has_outputs = λ files taken. taken;
+  has_outputs = λ files taken. (tt, taken);
 }
 
 pub match_suits : (i m p : List ℕ) (b : Bool) → IsTrue (is_verdict_of (Some (quick i m p)) (cond b status.Done status.Bounded))
@@ -74,7 +75,7 @@ matching i m p = record {
   is_done = λ lists deleted top text. match_suits i m p (length (promotion lists) == top);
   comes_to = λ files verdict on. on;
   outputs = λ lists deleted top text. refl;
-  has_outputs = λ files taken. taken;
+  has_outputs = λ files taken. (tt, taken);
 }
 
 pub refused_on : (Due : Lists → Verdict → Type 0) (files : Files) (i bytes : List ℕ) (rejection : Rejection) → files i ≡ Some bytes → taken_lists bytes ≡ Err rejection
@@ -87,7 +88,7 @@ bound_writer i m p = record {
   instance = i;
   no_outputs = λ rejection. refl;
   refuses = λ files bytes rejection file is. refused_on BoundDue files i bytes rejection file is;
-  has_outputs = λ files taken. taken;
+  has_outputs = λ files taken. (tt, taken);
   asks = refl;
   reads = refl;
 }
@@ -98,7 +99,7 @@ quick_writer i m p = record {
   instance = i;
   no_outputs = λ rejection. refl;
   refuses = λ files bytes rejection file is. refused_on MatchDue files i bytes rejection file is;
-  has_outputs = λ files taken. taken;
+  has_outputs = λ files taken. (tt, taken);
   asks = refl;
   reads = refl;
 }

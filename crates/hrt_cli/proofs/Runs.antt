@@ -6,7 +6,7 @@ use Rattle.hrt_base.specs.declared.port.Port.{Port}
 use Rattle.hrt_base.specs.declared.port.Port.TheVariants.{Report}
 use Rattle.hrt_base.specs.declared.host.Begun.{Begun}
 use Rattle.hrt_base.specs.declared.host.Begun.TheVariants.{Idle, Reading, Writing}
-use Rattle.hrt_base.specs.Calls.{AtStart, Sent, SentPart}
+use Rattle.hrt_base.specs.Calls.{AtStart, NoFault, SentPart, SentSoFar}
 use Rattle.hrt_base.specs.World.{World, Content, port_no, put, store}
 use Rattle.hrt_base.proofs.Pieces.{port_no-injective, put_here}
 use Rattle.hrt_solve.specs.Writing.{SentWhole}
@@ -86,7 +86,7 @@ pub read_worked : (told : Type 0) (request : Option Request) (answer : Answer) (
 read_worked told request answer old mid none start answered =
     let read = answered.only_read in
     record {
-      later = omega (arith, read.write_faults);
+      no_fault = record { read_faults = answered.read_faults; write_faults = read.write_faults };
       open_report = (read.writers Report).1 (report_open told old start);
       others = λ p writing. writes_report told old start p ((read.writers p).0 writing);
       suits = answered.suits;
@@ -122,8 +122,9 @@ read_ends told request ended.NoMemory old mid start up = leaves_nothing told req
 -- ---- a report that was sent whole
 
 reported_of : (told : Type 0) (request : Option Request) (status : Status) (old new : World) → (status ≡ Misused → ⊥) → IsTrue (is_verdict_of request status) → (request ≡ None → ⊥)
-    → ((port : Port) → new.begun port ≡ Writing → ⊥) → (told → IsReported request status old new) → Reported told request status old new
-reported_of told request status old new other suits asked closed reported = record {
+    → NoFault old new → ((port : Port) → new.begun port ≡ Writing → ⊥) → (told → IsReported request status old new) → Reported told request status old new
+reported_of told request status old new other suits asked no_fault closed reported = record {
+  no_fault = no_fault;
   suits = suits;
   understood = (λ e. absurd (other e), λ e. absurd (asked e));
   closed = closed;
@@ -135,18 +136,18 @@ none_is None e = refl
 none_is (Some request) e = absurd (cc)
 
 ends_by_verdict : (told : Type 0) (request : Option Request) (status : Status) (old new : World) → IsTrue (is_verdict_of request status) → (request ≡ None → ⊥)
-    → ((port : Port) → new.begun port ≡ Writing → ⊥) → (told → IsReported request status old new) → EndsAs told request status old new
-ends_by_verdict told request Done old new on asked closed reported = reported_of told request Done old new (λ e. absurd (cc)) on asked closed reported
-ends_by_verdict told request Misused old new on asked closed reported = absurd (asked (none_is request on))
-ends_by_verdict told request InstanceRefused old new on asked closed reported = reported_of told request InstanceRefused old new (λ e. absurd (cc)) on asked closed reported
-ends_by_verdict told request ReadFault old new on asked closed reported = absurd (cc)
-ends_by_verdict told request WriteFault old new on asked closed reported = absurd (cc)
-ends_by_verdict told request NoMemory old new on asked closed reported = absurd (cc)
-ends_by_verdict told request LimitExceeded old new on asked closed reported = reported_of told request LimitExceeded old new (λ e. absurd (cc)) on asked closed reported
-ends_by_verdict told request ProofRefused old new on asked closed reported = reported_of told request ProofRefused old new (λ e. absurd (cc)) on asked closed reported
-ends_by_verdict told request AuditNo old new on asked closed reported = reported_of told request AuditNo old new (λ e. absurd (cc)) on asked closed reported
-ends_by_verdict told request Bounded old new on asked closed reported = reported_of told request Bounded old new (λ e. absurd (cc)) on asked closed reported
-ends_by_verdict told request PairsRefused old new on asked closed reported = reported_of told request PairsRefused old new (λ e. absurd (cc)) on asked closed reported
+    → NoFault old new → ((port : Port) → new.begun port ≡ Writing → ⊥) → (told → IsReported request status old new) → EndsAs told request status old new
+ends_by_verdict told request Done old new on asked no_fault closed reported = reported_of told request Done old new (λ e. absurd (cc)) on asked no_fault closed reported
+ends_by_verdict told request Misused old new on asked no_fault closed reported = absurd (asked (none_is request on))
+ends_by_verdict told request InstanceRefused old new on asked no_fault closed reported = reported_of told request InstanceRefused old new (λ e. absurd (cc)) on asked no_fault closed reported
+ends_by_verdict told request ReadFault old new on asked no_fault closed reported = absurd (cc)
+ends_by_verdict told request WriteFault old new on asked no_fault closed reported = absurd (cc)
+ends_by_verdict told request NoMemory old new on asked no_fault closed reported = absurd (cc)
+ends_by_verdict told request LimitExceeded old new on asked no_fault closed reported = reported_of told request LimitExceeded old new (λ e. absurd (cc)) on asked no_fault closed reported
+ends_by_verdict told request ProofRefused old new on asked no_fault closed reported = reported_of told request ProofRefused old new (λ e. absurd (cc)) on asked no_fault closed reported
+ends_by_verdict told request AuditNo old new on asked no_fault closed reported = reported_of told request AuditNo old new (λ e. absurd (cc)) on asked no_fault closed reported
+ends_by_verdict told request Bounded old new on asked no_fault closed reported = reported_of told request Bounded old new (λ e. absurd (cc)) on asked no_fault closed reported
+ends_by_verdict told request PairsRefused old new on asked no_fault closed reported = reported_of told request PairsRefused old new (λ e. absurd (cc)) on asked no_fault closed reported
 
 whole_sends : (told : Type 0) (text : List ℕ) (outputs : List Output) (old mid new : World) → SendsAll outputs old.content mid.content → mid.content.name Report ≡ [] → SentWhole told Report text mid new → told
     → SendsAll outputs old.content new.content
@@ -178,6 +179,7 @@ pub whole_reported : (told : Type 0) (request : Option Request) (answer : Answer
     → SentWhole told Report answer.report mid new → (request ≡ None → ⊥) → EndsAs told request answer.status old new
 whole_reported told request answer old mid new worked sent asked =
     ends_by_verdict told request answer.status old new worked.suits asked
+    (record { read_faults = sent.read_faults ∙ worked.no_fault.read_faults; write_faults = sent.write_faults ∙ worked.no_fault.write_faults })
     (closed_after told answer.report mid new worked.others sent)
     (λ t. let due = worked.due t in record {
       verdict = due.verdict;
@@ -190,7 +192,7 @@ whole_reported told request answer old mid new worked sent asked =
 
 -- ---- a report of which a front was sent
 
-part_sends : (told : Type 0) (text : List ℕ) (outputs : List Output) (old mid new : World) → SendsAll outputs old.content mid.content → Sent told Report text mid new → told
+part_sends : (told : Type 0) (text : List ℕ) (outputs : List Output) (old mid new : World) → SendsAll outputs old.content mid.content → SentSoFar told Report text mid new → told
     → SendsAll outputs old.content new.content
 part_sends told text outputs old mid new sends sent t = record {
   sent = λ p other.
@@ -200,10 +202,10 @@ part_sends told text outputs old mid new sends sent t = record {
   files = λ name. ap (λ (c : Content). c.file name) (sent.content t) ∙ sends.files name;
 }
 
-part_text : (told : Type 0) (text : List ℕ) (mid new : World) → mid.content.sent Report ≡ [] → Sent told Report text mid new → told → new.content.sent Report ≡ text
+part_text : (told : Type 0) (text : List ℕ) (mid new : World) → mid.content.sent Report ≡ [] → SentSoFar told Report text mid new → told → new.content.sent Report ≡ text
 part_text told text mid new silent sent t = ap (λ (c : Content). c.sent Report) (sent.content t) ∙ ap (λ (l : List ℕ). l ++ text) silent
 
-part_read_out : (told : Type 0) (text : List ℕ) (mid new : World) (v : Verdict) → Sent told Report text mid new → told → IsReadOut v mid → IsReadOut v new
+part_read_out : (told : Type 0) (text : List ℕ) (mid new : World) (v : Verdict) → SentSoFar told Report text mid new → told → IsReadOut v mid → IsReadOut v new
 part_read_out told text mid new v sent t out p reading =
     let here : mid.begun p ≡ Reading = sym (ap (λ (f : Port → Begun). f p) sent.begun) ∙ reading in
     subst (λ (l : List ℕ). (l ≡ []) ⊎ PassedAt v p) (sym (ap (λ (c : Content). c.rest p) (sent.content t))) (out p here)
@@ -211,7 +213,7 @@ part_read_out told text mid new v sent t out p reading =
 pub cut_short : (told : Type 0) (request : Option Request) (answer : Answer) (old mid new : World) → IsWorked told request answer old mid
     → SentPart told Report answer.report mid new → CutShort told request old new
 cut_short told request answer old mid new worked part = record {
-  rose = let rose = part.rose in let later = worked.later in omega arith;
+  rose = let rose = part.rose in let before = worked.no_fault.write_faults in omega arith;
   cut_short = λ t.
       let due = worked.due t in
       let sends = part_sends told (take part.part.0 answer.report) (outputs_of request due.verdict) old mid new due.sends part.part.1 t in
@@ -237,6 +239,7 @@ pub misused_whole : (told : Type 0) (text : List ℕ) (old new : World) → AtSt
 misused_whole told text old new start is sent = record {
   understood = (λ e. refl, λ e. refl);
   suits = refl;
+  no_fault = record { read_faults = sent.read_faults; write_faults = sent.write_faults };
   closed = closed_after told text old new (writes_report told old start) sent;
   reported = λ t. record {
     verdict = misused;

@@ -18,7 +18,8 @@ use Rattle.hrt_cli.specs.declared.stop.Ended.{Ended}
 use Rattle.hrt_cli.specs.Answers.{Explains, IsAnswer, IsAnswered, is_verdict_of}
 use Rattle.hrt_cli.specs.Requests.{solve}
 use Rattle.hrt_cli.specs.Statuses.{status_of}
-use Rattle.hrt_cli.specs.Verdicts.{ComesTo, Files, rejected, solved, due, solve_verdict}
+use Rattle.hrt_cli.specs.Plans.{Files}
+use Rattle.hrt_cli.specs.Verdicts.{ComesTo, rejected, solved, due, solve_verdict}
 use Rattle.hrt_cli.proofs.ReadOut.{passed_as, reads_one}
 
 -- the verdict on lists, and on a refusal
@@ -34,6 +35,7 @@ pub solve_rejected : (told : Type 0) (name : List ℕ) (rejection : Rejection) (
     → IsRejected told name TriedPairs rejection old new → IsTrue (is_verdict_of (Some (solve name)) (status_of (rejected rejection))) → IsAnswer (rejected rejection) answer → IsAnswered told (Some (solve name)) answer old new
 solve_rejected told name rejection answer old new start read suits answered = record {
   only_read = read.only_read;
+  read_faults = read.read_faults;
   suits = subst (λ (s : Status). IsTrue (is_verdict_of (Some (solve name)) s)) (sym answered.status) suits;
   due = λ t.
       let text = read.due t in (

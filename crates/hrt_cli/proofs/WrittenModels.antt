@@ -20,7 +20,8 @@ use Rattle.hrt_cli.specs.Reports.{IsReport}
 use Rattle.hrt_cli.specs.Requests.{Request, is_file_name, model, request_of}
 use Rattle.hrt_cli.specs.Runs.{EndsAs, WritesModel}
 use Rattle.hrt_cli.specs.Statuses.{code_of, status_of}
-use Rattle.hrt_cli.specs.Verdicts.{ComesTo, Files, Verdict, audited, bounded, checked, due, matched, misused, model_verdict, modeled, rejected, solved, verified}
+use Rattle.hrt_cli.specs.Plans.{Files}
+use Rattle.hrt_cli.specs.Verdicts.{ComesTo, Verdict, audited, bounded, checked, due, matched, misused, model_verdict, modeled, rejected, solved, verified}
 use Rattle.hrt_cli.specs.Writing.{EndsWriting, WritesAll, WritesInPart}
 use Rattle.hrt_cli.proofs.Codes.{IsSpelledIn, rejected_not_done, reported, zero_has_report}
 use Rattle.hrt_cli.proofs.NamedOutputs.{AreNamed, outputs_named, stored}
@@ -38,7 +39,7 @@ model_writer i m = record {
   instance = i;
   no_outputs = λ rejection. refl;
   refuses = λ files bytes rejection file is. model_due files i m bytes (Err rejection) file is;
-  has_outputs = λ files taken. taken;
+  has_outputs = λ files taken. (tt, taken);
   asks = refl;
   reads = refl;
 }
@@ -59,9 +60,9 @@ model_ends : (told : Type 0) (i m : List ℕ) (lists : Lists) (why : Ended) (old
     → WritesInPart told (output Model m (model_text lists) ∷ []) mid new → (why ≡ ended.ReadFault → ⊥) → (why ≡ ended.WriteFault → Rose mid.write_faults new.write_faults)
     → EndsEarly told (Some (model i m)) why old new
 model_ends told i m lists why old mid new start loaded (inl nothing) other rose =
-    outputs_end told i lists old mid start loaded (Some (model i m)) _ _ why new nothing (λ taken. taken) (nothing_left told i lists old mid start loaded (Some (model i m)) new nothing) other rose
+    outputs_end told i lists old mid start loaded (Some (model i m)) _ _ why new nothing (λ taken. (tt, taken)) (nothing_left told i lists old mid start loaded (Some (model i m)) new nothing) other rose
 model_ends told i m lists why old mid new start loaded (inr parts) other rose =
-    outputs_end told i lists old mid start loaded (Some (model i m)) _ _ why new parts.writes (λ taken. taken)
+    outputs_end told i lists old mid start loaded (Some (model i m)) _ _ why new parts.writes (λ taken. (tt, taken))
     (outputs_left told i lists old mid start loaded (Some (model i m)) (modeled lists) new parts (loaded_due told i m lists old mid loaded)) other rose
 
 pub model_gives_up : (told : Type 0) (i m : List ℕ) (lists : Lists) (r : Result Answer Ended) (old mid new : World) → AtStart told old → IsLoaded told i limit.Pairs lists old mid

@@ -1,6 +1,6 @@
 -- What a command that writes outputs comes to, once its instance was loaded.
 use Rattle.std.specs.Prelude.{is_some}
-use Rattle.std.proofs.Common.{◌≡◌, ◌⊎◌, ℕ, List, [], Option, Some, Result, Ok, Err, IfErr, IfOk, IsTrue, refl, sym, ◌∙◌, ap, subst, arith, inl, inr}
+use Rattle.std.proofs.Common.{◌≡◌, ◌⊎◌, ℕ, List, [], ◌∷◌, Option, Some, Result, Ok, Err, IfErr, IfOk, IsTrue, refl, sym, ◌∙◌, ap, subst, arith, inl, inr}
 use Rattle.hrt_base.specs.declared.port.Port.{Port}
 use Rattle.hrt_base.specs.declared.port.Port.TheVariants.{Instance, Pairs, Model, Proof, Report, ModelTwo, ProofTwo}
 use Rattle.hrt_base.specs.declared.host.Begun.{Begun}
@@ -13,7 +13,7 @@ use Rattle.hrt_inputs.specs.declared.stop.Stop.{Stop}
 use Rattle.hrt_inputs.specs.declared.stop.Stop.TheVariants.{Refused, Exceeded, PairsRefused, ModelRefused, ProofRefused, ReadFault, NoMemory}
 use Rattle.hrt_inputs.specs.Inputs.{OnlyRead}
 use Rattle.hrt_inputs.specs.Loading.{IsLoaded, IsRejected, StopsLoading}
-use Rattle.hrt_inputs.specs.Taken.{IsTaken, lists_in, of_few_terms, within}
+use Rattle.hrt_inputs.specs.Taken.{lists_in, of_few_terms, within}
 use Rattle.hrt_inputs.specs.Rejections.{Rejection, exceeded}
 use Rattle.hrt_cli.specs.declared.answer.Answer.{Answer}
 use Rattle.hrt_cli.specs.declared.status.Status.{Status}
@@ -22,9 +22,11 @@ use Rattle.hrt_cli.specs.declared.stop.Ended.TheVariants as ended
 use Rattle.hrt_cli.specs.Answers.{EndsEarly, EndsFor, Explains, HasOutputs, IsAnswer, IsWorked, LeavesFronts, PassedAt, is_verdict_of, reads_instance}
 use Rattle.hrt_cli.specs.Outputs.{Output, files_after, outputs_of}
 use Rattle.hrt_cli.specs.Requests.{Request}
-use Rattle.hrt_cli.specs.Verdicts.{ComesTo, Files, Verdict, misused, rejected}
+use Rattle.hrt_cli.specs.Plans.{AreTaken, Files, instance_in}
+use Rattle.hrt_cli.specs.Verdicts.{ComesTo, Verdict, misused, rejected}
 use Rattle.hrt_cli.specs.Statuses.{status_of}
 use Rattle.hrt_cli.specs.Writing.{Writes, WritesAll, WritesFronts, WritesNothing}
+use Rattle.hrt_cli.proofs.Inputs.{instance_taken}
 use Rattle.hrt_cli.proofs.ReadOut.{passed_as, reads_one}
 use Rattle.hrt_cli.proofs.Runs.{file_before, leaves_nothing, name_before, nothing_due, read_ends, report_open, sent_before, writes_report}
 
@@ -37,7 +39,7 @@ pub record Writer : Type 0 where
   pub no_outputs : (rejection : Rejection) → outputs_of request (rejected rejection) ≡ []
   pub refuses : (files : Files) (bytes : List ℕ) (rejection : Rejection) → files instance ≡ Some bytes → of_few_terms (within limit.Pairs (lists_in bytes)) ≡ Err rejection
       → ComesTo request files (rejected rejection)
-  pub has_outputs : (files : Files) → IsTaken (files instance) → HasOutputs request files
+  pub has_outputs : (files : Files) → AreTaken (instance_in instance ∷ []) files → HasOutputs request files
   pub asks : IsTrue (is_some request)
   pub reads : IsTrue (reads_instance request)
 
@@ -52,10 +54,6 @@ unpassed Proof l (inr e) = absurd (cc)
 unpassed Report l (inr e) = absurd e
 unpassed ModelTwo l (inr e) = absurd e
 unpassed ProofTwo l (inr e) = absurd e
-
--- an instance that was loaded is taken
-pub is_taken : (told : Type 0) (i : List ℕ) (lists : Lists) (old mid : World) → IsLoaded told i limit.Pairs lists old mid → told → IsTaken (old.content.file i)
-is_taken told i lists old mid loaded t = let text = loaded.spelled t in record { bytes = text.0; is_file = text.1; value = lists; taken = text.2 }
 
 module _ (told : Type 0) (i : List ℕ) (lists : Lists) (old mid : World) (start : AtStart told old) (loaded : IsLoaded told i limit.Pairs lists old mid) where
   -- the instance alone was read, to its end
@@ -79,7 +77,7 @@ module _ (told : Type 0) (i : List ℕ) (lists : Lists) (old mid : World) (start
       let writes = saved.writes in
       let outputs : List Output = outputs_of request verdict in
       record {
-        later = omega (arith, read.write_faults, writes.later);
+        no_fault = record { read_faults = saved.no_fault.read_faults ∙ loaded.read_faults; write_faults = saved.no_fault.write_faults ∙ read.write_faults };
         open_report = writes.report ∙ ap (λ (f : Port → Begun). f Report) loaded.begun ∙ report_open told old start;
         others = λ p writing. writes_report told old start p ((read.writers p).0 (saved.writers p writing));
         suits = subst (λ (s : Status). IsTrue (is_verdict_of request s)) (sym answered.status) on;
@@ -125,7 +123,7 @@ module _ (told : Type 0) (i : List ℕ) (lists : Lists) (old mid : World) (start
   }
 
   -- the outputs were cut short, by a fault or by want of memory
-  pub outputs_end : (request : Option Request) (sent kept : List Output) (why : Ended) (new : World) → Writes told sent kept mid new → (IsTaken (old.content.file i) → HasOutputs request old.content.file)
+  pub outputs_end : (request : Option Request) (sent kept : List Output) (why : Ended) (new : World) → Writes told sent kept mid new → (AreTaken (instance_in i ∷ []) old.content.file → HasOutputs request old.content.file)
       → (told → LeavesFronts request old.content new.content) → (why ≡ ended.ReadFault → ⊥) → (why ≡ ended.WriteFault → Rose mid.write_faults new.write_faults) → EndsEarly told request why old new
   outputs_end request sent kept ended.ReadFault new writes has left other rose = absurd (other refl)
   outputs_end request sent kept ended.WriteFault new writes has left other rose =
@@ -133,7 +131,7 @@ module _ (told : Type 0) (i : List ℕ) (lists : Lists) (old mid : World) (start
       record {
         rose = omega (arith, loaded.only_read.write_faults, risen);
         cut_short = λ t. inl (record {
-          has_outputs = has (is_taken told i lists old mid loaded t);
+          has_outputs = has (instance_taken told i limit.Pairs lists old mid loaded t);
           read_out = read_whole sent kept new writes t;
           leaves = left t;
         });
@@ -147,7 +145,7 @@ instance_rejected : (told : Type 0) (w : Writer) (rejection : Rejection) (answer
 instance_rejected told w rejection answer old new start read suits answered =
     let only = read.only_read in
     record {
-      later = omega (arith, only.write_faults);
+      no_fault = record { read_faults = read.read_faults; write_faults = only.write_faults };
       open_report = (only.writers Report).1 (report_open told old start);
       others = λ p writing. writes_report told old start p ((only.writers p).0 writing);
       suits = subst (λ (s : Status). IsTrue (is_verdict_of w.request s)) (sym answered.status) suits;

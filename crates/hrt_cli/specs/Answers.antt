@@ -1,10 +1,11 @@
 -- What a run answers for a verdict.
-use Rattle.std.specs.Prelude.{◌≡◌, ◌⊎◌, ◌≤◌, ℕ, Bool, true, false, is_none, is_some, IsTrue, List, [], take, Option, Some, None, IfSome}
+use Rattle.std.specs.Prelude.{◌≡◌, ◌⊎◌, ℕ, Bool, false, is_none, is_some, IsTrue, List, [], take, Option, IfSome}
+use Rattle.std.specs.List.{list_any}
 use Rattle.hrt_base.specs.declared.port.Port.{Port}
 use Rattle.hrt_base.specs.declared.port.Port.TheVariants.{Instance, Pairs, Model, Proof, Report, ModelTwo, ProofTwo}
 use Rattle.hrt_base.specs.declared.host.Begun.TheVariants.{Reading, Writing}
 use Rattle.hrt_base.specs.World.{World, Content, port_no}
-use Rattle.hrt_base.specs.Calls.{Rose}
+use Rattle.hrt_base.specs.Calls.{NoFault, Rose}
 use Rattle.hrt_reader.specs.Kinds.{number}
 use Rattle.hrt_reader.specs.PairsAnswer.{pairs_number}
 use Rattle.proof_lines.specs.declared.line.Claim.{Claim}
@@ -16,39 +17,33 @@ use Rattle.hrt_inputs.specs.declared.stop.Stop.TheVariants.{Refused, Exceeded, P
 use Rattle.hrt_inputs.specs.Inputs.{OnlyRead}
 use Rattle.hrt_inputs.specs.Loading.{FailedToRead}
 use Rattle.hrt_inputs.specs.Rejections.{refused, exceeded, pairs_refused, model_refused}
-use Rattle.hrt_inputs.specs.Taken.{IsTaken}
 use Rattle.hrt_cli.specs.declared.answer.Answer.{Answer}
 use Rattle.hrt_cli.specs.declared.status.Status.{Status}
 use Rattle.hrt_cli.specs.declared.status.Status.TheVariants as status
 use Rattle.hrt_cli.specs.declared.stop.Ended.{Ended}
 use Rattle.hrt_cli.specs.declared.stop.Ended.TheVariants as ended
 use Rattle.hrt_cli.specs.Outputs.{SendsAll, SendsFronts, outputs_of}
+use Rattle.hrt_cli.specs.Plans.{AreSome, AreTaken, Files, is_instance, is_pairs, is_proof, may_end_open, plan_of}
 use Rattle.hrt_cli.specs.Reports.{IsReport}
-use Rattle.hrt_cli.specs.Requests.{Request, solve, audit, model, verify, check, bound, quick}
-use Rattle.hrt_cli.specs.Verdicts.{Verdict, rejected, ComesTo, Files, on_verdict}
+use Rattle.hrt_cli.specs.Requests.{Request}
+use Rattle.hrt_cli.specs.Verdicts.{Verdict, rejected, ComesTo, on_verdict}
 use Rattle.hrt_cli.specs.Statuses.{status_of}
 
 -- the command reads an instance
 abbrev pub reads_instance : Option Request → Bool
-reads_instance None = false
-reads_instance (Some (check file proof)) = false
-reads_instance _ = true
+reads_instance request = list_any (λ i. is_instance i.kind) (plan_of request).inputs
 
 -- the command judges a proof
 abbrev pub judges_proof : Option Request → Bool
-judges_proof (Some (verify instance proof)) = true
-judges_proof (Some (check file proof)) = true
-judges_proof _ = false
+judges_proof request = list_any (λ i. is_proof i.kind) (plan_of request).inputs
 
 -- the command audits pairs
 abbrev pub audits_pairs : Option Request → Bool
-audits_pairs (Some (audit instance pairs)) = true
-audits_pairs _ = false
+audits_pairs request = list_any (λ i. is_pairs i.kind) (plan_of request).inputs
 
 -- the command prints a matching that may be shorter than the ceiling
 abbrev pub may_be_open : Option Request → Bool
-may_be_open (Some (quick instance file proof)) = true
-may_be_open _ = false
+may_be_open request = may_end_open (plan_of request).job
 
 -- a status that tells a verdict to which these words can come, whatever the files are
 abbrev pub is_verdict_of : Option Request → Status → Bool
@@ -106,9 +101,10 @@ IsReadOut verdict w = (port : Port) → w.begun port ≡ Reading → (w.content.
 
 -- ---- commands that only read
 
--- the words and the files come to this answer, and nothing but reading was done
+-- the words and the files come to this answer, and nothing but reading was done, with no call failed
 pub record IsAnswered (told : Type 0) (request : Option Request) (answer : Answer) (old new : World) : Type 0 where
   pub only_read : OnlyRead told old new
+  pub read_faults : new.read_faults ≡ old.read_faults
   pub suits : IsTrue (is_verdict_of request answer.status)
   pub due : told → (verdict : Verdict) × ComesTo request old.content.file verdict × IsAnswer verdict answer × IsReadOut verdict new
 
@@ -130,9 +126,9 @@ pub record IsWorkDone (request : Option Request) (answer : Answer) (old new : Wo
   pub silent : new.content.sent Report ≡ []
   pub unnamed : new.content.name Report ≡ []
 
--- a command came to this answer, and the report alone is left to write
+-- a command came to this answer with no call failed, and the report alone is left to write
 pub record IsWorked (told : Type 0) (request : Option Request) (answer : Answer) (old new : World) : Type 0 where
-  pub later : old.write_faults ≤ new.write_faults
+  pub no_fault : NoFault old new
   pub open_report : new.begun Report ≡ Writing
   pub others : (p : Port) → new.begun p ≡ Writing → port_no p ≡ port_no Report
   pub suits : IsTrue (is_verdict_of request answer.status)
@@ -156,14 +152,7 @@ pub record LeavesFronts (request : Option Request) (old new : Content) : Type 0 
 
 -- the command has outputs, and its inputs are taken
 abbrev pub HasOutputs : Option Request → Files → Type 0
-HasOutputs None files = ⊥
-HasOutputs (Some (solve instance)) files = ⊥
-HasOutputs (Some (audit instance pairs)) files = ⊥
-HasOutputs (Some (model instance file)) files = IsTaken (files instance)
-HasOutputs (Some (verify instance proof)) files = ⊥
-HasOutputs (Some (check file proof)) files = ⊥
-HasOutputs (Some (bound instance file proof)) files = IsTaken (files instance)
-HasOutputs (Some (quick instance file proof)) files = IsTaken (files instance)
+HasOutputs request files = AreSome (plan_of request).outputs × AreTaken (plan_of request).inputs files
 
 -- the outputs were cut short: each input was read to its end, and no byte of the report was sent
 pub record IsCutBefore (request : Option Request) (old new : World) : Type 0 where

@@ -1,5 +1,6 @@
 pub mod Answers
 pub mod Outputs
+pub mod Plans
 pub mod Ports
 pub mod Reports
 pub mod Requests

@@ -1,12 +1,13 @@
 -- What a command writes before its report.
-use Rattle.std.specs.Prelude.{◌≡◌, ℕ, zero, suc, ◌==◌, ◌||◌, Bool, false, if◌then◌else◌, List, [], ◌∷◌, take, Option, Some, None, bytes_eq}
+use Rattle.std.specs.Prelude.{◌≡◌, ℕ, zero, suc, ◌==◌, Bool, if◌then◌else◌, List, [], ◌∷◌, take, Option}
 use Rattle.hrt_base.specs.declared.port.Port.{Port}
 use Rattle.hrt_base.specs.declared.port.Port.TheVariants.{Model, Proof, Report}
 use Rattle.hrt_base.specs.World.{Content, port_no, store}
 use Rattle.rank_tables.specs.Instance.{Lists}
 use Rattle.opb_text.specs.Spelling.{model_text}
-use Rattle.hrt_cli.specs.Requests.{Request, solve, audit, model, verify, check, bound, quick}
-use Rattle.hrt_cli.specs.Verdicts.{Files, Verdict, misused, modeled, rejected, solved, audited, verified, checked, bounded, matched}
+use Rattle.hrt_cli.specs.Plans.{Files, Named, is_named, plan_of}
+use Rattle.hrt_cli.specs.Requests.{Request}
+use Rattle.hrt_cli.specs.Verdicts.{Verdict, misused, modeled, rejected, solved, audited, verified, checked, bounded, matched}
 
 -- a text that is written on a port, and becomes the file of this name
 pub record Output : Type 0 where
@@ -20,55 +21,35 @@ output port name text = record { port = port; name = name; text = text }
 
 -- ---- what is due
 
--- the model under this name where a model is due, and else nothing
-abbrev pub model_outputs : List ℕ → Verdict → List Output
-model_outputs name (modeled lists) = output Model name (model_text lists) ∷ []
-model_outputs name misused = []
-model_outputs name (rejected rejection) = []
-model_outputs name (solved lists) = []
-model_outputs name (audited lists pairs) = []
-model_outputs name (verified claim) = []
-model_outputs name (checked claim) = []
-model_outputs name (bounded lists deleted top text) = []
-model_outputs name (matched lists deleted top text) = []
+-- the texts that are due, in the order in which they are written
+abbrev pub texts_of : Verdict → List (List ℕ)
+texts_of misused = []
+texts_of (rejected rejection) = []
+texts_of (solved lists) = []
+texts_of (audited lists pairs) = []
+texts_of (modeled lists) = model_text lists ∷ []
+texts_of (verified claim) = []
+texts_of (checked claim) = []
+texts_of (bounded lists deleted top text) = model_text lists ∷ text ∷ []
+texts_of (matched lists deleted top text) = model_text lists ∷ text ∷ []
+
+-- The texts with the outputs of their places. An output without a text isn't written.
+abbrev pub outputs_with : List Named → List (List ℕ) → List Output
+outputs_with [] texts = []
+outputs_with (o ∷ outputs) [] = []
+outputs_with (o ∷ outputs) (text ∷ texts) = output o.port o.name text ∷ outputs_with outputs texts
+
+-- what is written for a verdict, one output after the other
+abbrev pub outputs_of : Option Request → Verdict → List Output
+outputs_of request verdict = outputs_with (plan_of request).outputs (texts_of verdict)
 
 -- the model under one name and a proof under another
 abbrev pub both : List ℕ → List ℕ → Lists → List ℕ → List Output
 both name proof lists text = output Model name (model_text lists) ∷ output Proof proof text ∷ []
 
--- the model and the proof under these names where a bound or a matching is due, and else nothing
-abbrev pub proof_outputs : List ℕ → List ℕ → Verdict → List Output
-proof_outputs name proof (bounded lists deleted top text) = both name proof lists text
-proof_outputs name proof (matched lists deleted top text) = both name proof lists text
-proof_outputs name proof misused = []
-proof_outputs name proof (rejected rejection) = []
-proof_outputs name proof (solved lists) = []
-proof_outputs name proof (audited lists pairs) = []
-proof_outputs name proof (modeled lists) = []
-proof_outputs name proof (verified claim) = []
-proof_outputs name proof (checked claim) = []
-
--- what is written for a verdict, one output after the other
-abbrev pub outputs_of : Option Request → Verdict → List Output
-outputs_of None verdict = []
-outputs_of (Some (solve instance)) verdict = []
-outputs_of (Some (audit instance pairs)) verdict = []
-outputs_of (Some (model instance name)) verdict = model_outputs name verdict
-outputs_of (Some (verify instance proof)) verdict = []
-outputs_of (Some (check file proof)) verdict = []
-outputs_of (Some (bound instance name proof)) verdict = proof_outputs name proof verdict
-outputs_of (Some (quick instance name proof)) verdict = proof_outputs name proof verdict
-
 -- the words name this file as one to be written
 abbrev pub is_output_name : Option Request → List ℕ → Bool
-is_output_name None name = false
-is_output_name (Some (solve instance)) name = false
-is_output_name (Some (audit instance pairs)) name = false
-is_output_name (Some (model instance file)) name = bytes_eq name file
-is_output_name (Some (verify instance proof)) name = false
-is_output_name (Some (check file proof)) name = false
-is_output_name (Some (bound instance file proof)) name = bytes_eq name file || bytes_eq name proof
-is_output_name (Some (quick instance file proof)) name = bytes_eq name file || bytes_eq name proof
+is_output_name request name = is_named (plan_of request).outputs name
 
 -- ---- what is there of it
 

@@ -1,50 +1,28 @@
 -- Which ports a command begins.
-use Rattle.std.specs.Prelude.{◌≡◌, ◌⊎◌, Option, Some, None}
+use Rattle.std.specs.Prelude.{◌≡◌, ◌⊎◌, [], Option}
 use Rattle.hrt_base.specs.declared.port.Port.{Port}
-use Rattle.hrt_base.specs.declared.port.Port.TheVariants.{Instance, Pairs, Model, Proof, Report}
+use Rattle.hrt_base.specs.declared.port.Port.TheVariants.{Model, Proof, Report}
 use Rattle.hrt_base.specs.declared.host.Begun.TheVariants.{Reading, Writing}
 use Rattle.hrt_base.specs.World.{World}
-use Rattle.hrt_inputs.specs.Inputs.{IsAt, KeepsPorts}
-use Rattle.hrt_inputs.specs.Taken.{IsTaken, IsTakenAs, formula_in}
-use Rattle.hrt_cli.specs.Requests.{Request, solve, audit, model, verify, check, bound, quick}
-use Rattle.hrt_cli.specs.Verdicts.{Files}
+use Rattle.hrt_inputs.specs.Inputs.{KeepsPorts}
+use Rattle.hrt_cli.specs.Plans.{AreTaken, Files, IsInputPort, IsReadPort, IsWritePort, plan_of}
+use Rattle.hrt_cli.specs.Requests.{Request}
 
--- The command reads on this port: the first of its inputs, or the second one where the first is taken.
+-- The command reads on this port: that of one of its inputs, and those before it are taken.
 abbrev pub IsInput : (told : Type 0) → Option Request → Files → Port → Type 0
-IsInput told None files port = ⊥
-IsInput told (Some (solve instance)) files port = port ≡ Instance
-IsInput told (Some (audit instance pairs)) files port = (port ≡ Instance) ⊎ ((port ≡ Pairs) × (told → IsTaken (files instance)))
-IsInput told (Some (model instance file)) files port = port ≡ Instance
-IsInput told (Some (verify instance proof)) files port = (port ≡ Instance) ⊎ ((port ≡ Proof) × (told → IsTaken (files instance)))
-IsInput told (Some (check file proof)) files port = (port ≡ Model) ⊎ ((port ≡ Proof) × (told → IsTakenAs formula_in (files file)))
-IsInput told (Some (bound instance file proof)) files port = port ≡ Instance
-IsInput told (Some (quick instance file proof)) files port = port ≡ Instance
+IsInput told request files port = IsInputPort told [] (plan_of request).inputs files port
 
 -- the port of a model or that of a proof
 abbrev pub IsModelOrProof : Port → Type 0
 IsModelOrProof port = (port ≡ Model) ⊎ (port ≡ Proof)
 
--- the command writes on this port, and its input is taken
+-- the command writes on this port, and its inputs are taken
 abbrev pub IsOutput : (told : Type 0) → Option Request → Files → Port → Type 0
-IsOutput told None files port = ⊥
-IsOutput told (Some (solve instance)) files port = ⊥
-IsOutput told (Some (audit instance pairs)) files port = ⊥
-IsOutput told (Some (model instance file)) files port = IsAt Model port × (told → IsTaken (files instance))
-IsOutput told (Some (verify instance proof)) files port = ⊥
-IsOutput told (Some (check file proof)) files port = ⊥
-IsOutput told (Some (bound instance file proof)) files port = IsModelOrProof port × (told → IsTaken (files instance))
-IsOutput told (Some (quick instance file proof)) files port = IsModelOrProof port × (told → IsTaken (files instance))
+IsOutput told request files port = IsWritePort (plan_of request).outputs port × (told → AreTaken (plan_of request).inputs files)
 
 -- the command uses this port: that of one of its files, or the report
 abbrev pub IsPortOf : Option Request → Port → Type 0
-IsPortOf None port = port ≡ Report
-IsPortOf (Some (solve instance)) port = (port ≡ Instance) ⊎ (port ≡ Report)
-IsPortOf (Some (audit instance pairs)) port = (port ≡ Instance) ⊎ (port ≡ Pairs) ⊎ (port ≡ Report)
-IsPortOf (Some (model instance file)) port = (port ≡ Instance) ⊎ IsAt Model port ⊎ (port ≡ Report)
-IsPortOf (Some (verify instance proof)) port = (port ≡ Instance) ⊎ (port ≡ Proof) ⊎ (port ≡ Report)
-IsPortOf (Some (check file proof)) port = (port ≡ Model) ⊎ (port ≡ Proof) ⊎ (port ≡ Report)
-IsPortOf (Some (bound instance file proof)) port = (port ≡ Instance) ⊎ IsModelOrProof port ⊎ (port ≡ Report)
-IsPortOf (Some (quick instance file proof)) port = (port ≡ Instance) ⊎ IsModelOrProof port ⊎ (port ≡ Report)
+IsPortOf request port = IsReadPort (plan_of request).inputs port ⊎ IsWritePort (plan_of request).outputs port ⊎ (port ≡ Report)
 
 -- of the ports that the command doesn't use the name, what is left to read and what was sent are as they were
 pub record KeepsOtherPorts (told : Type 0) (request : Option Request) (old new : World) : Type 0 where

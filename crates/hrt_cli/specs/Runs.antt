@@ -4,7 +4,7 @@ use Rattle.std.specs.List.Sorted.{IsStrictlyIncreasing}
 use Rattle.hrt_base.specs.declared.port.Port.{Port}
 use Rattle.hrt_base.specs.declared.port.Port.TheVariants.{Model, Proof, Report}
 use Rattle.hrt_base.specs.declared.host.Begun.TheVariants.{Writing}
-use Rattle.hrt_base.specs.Calls.{Rose}
+use Rattle.hrt_base.specs.Calls.{NoFault, Rose}
 use Rattle.hrt_base.specs.World.{World, Content}
 use Rattle.hrt_inputs.specs.Taken.{IsTaken}
 use Rattle.hrt_cli.specs.declared.status.Status.{Status}
@@ -26,7 +26,7 @@ use Rattle.hrt_solve.specs.Gauged.{AreNumbersOf, IsMost, bound_claim, found_clai
 use Rattle.hrt_solve.specs.Writing.{IsProof}
 use Rattle.hrt_text.specs.Text.{rows}
 use Rattle.hrt_reader.specs.PairsText.{pairs_of_rows, pairs_refusal}
-use Rattle.hrt_reader.specs.Refusal.{Spells}
+use Rattle.hrt_reader.specs.Accepted.{Spells}
 use Rattle.stability_audit.specs.Verdict.{verdict_of as audit_of}
 use Rattle.opb_text.specs.Refusal.{Spells as SpellsFormula}
 use Rattle.opb_text.specs.Spelling.{model_text}
@@ -40,11 +40,12 @@ pub record IsReported (request : Option Request) (status : Status) (old new : Wo
   pub read_out : IsReadOut verdict new
   pub sends : SendsAll (outputs_of request verdict) old.content new.content
 
--- The report was sent whole, and no port is left begun for writing. The run is misused just where the words ask for nothing, and
+-- The report was sent whole, no call failed, and no port is left begun for writing. The run is misused just where the words ask for nothing, and
 -- the status is one that they can come to.
 pub record Reported (told : Type 0) (request : Option Request) (status : Status) (old new : World) : Type 0 where
   pub understood : (status ≡ Misused) ↔ (request ≡ None)
   pub suits : IsTrue (is_verdict_of request status)
+  pub no_fault : NoFault old new
   pub closed : (port : Port) → new.begun port ≡ Writing → ⊥
   pub reported : told → IsReported request status old new
 

@@ -12,6 +12,7 @@ use Rattle.hrt_inputs.specs.declared.limit.Limit.TheVariants.{TriedPairs, ProofB
 use Rattle.hrt_inputs.specs.Limits.{most}
 use Rattle.hrt_inputs.specs.Rejections.{Rejection, exceeded, proof_refused, truncated}
 use Rattle.hrt_inputs.specs.Taken.{formula_in, formula_of_instance, lists_in, pairs_in, taken_lists, within}
+use Rattle.hrt_cli.specs.Plans.{Files}
 use Rattle.hrt_cli.specs.Requests.{Request, solve, audit, model, verify, check, bound, quick}
 
 -- what a run comes to: the words ask for nothing, a file isn't taken, or this is due
@@ -25,10 +26,6 @@ pub data Verdict : Type 0 where
   checked : Claim → Verdict  -- the proof of the model is valid, with this claim
   bounded : Lists → ℕ → ℕ → List ℕ → Verdict  -- so many pairs are deleted, this is the ceiling, and this proof of it is due
   matched : Lists → ℕ → ℕ → List ℕ → Verdict  -- the same, and the pairs of the first matching are due
-
--- the files by their names
-abbrev pub Files : Type 0
-Files = List ℕ → Option (List ℕ)
 
 -- what is due for the lists, unless the file isn't taken
 abbrev pub due : Result Lists Rejection → (Lists → Verdict) → Verdict

@@ -5,7 +5,7 @@ use Rattle.hrt_base.specs.declared.port.Port.TheVariants.{Model, Proof, Report}
 use Rattle.hrt_base.specs.declared.host.Begun.TheVariants.{Reading, Writing}
 use Rattle.hrt_base.specs.declared.failure.WriteEnd.{WriteEnd}
 use Rattle.hrt_base.specs.declared.failure.WriteEnd.TheVariants as end
-use Rattle.hrt_base.specs.Calls.{Rose}
+use Rattle.hrt_base.specs.Calls.{NoFault, Rose}
 use Rattle.hrt_base.specs.World.{World, Content, put, started}
 use Rattle.rank_tables.specs.Instance.{Lists}
 use Rattle.proof_lines.specs.declared.line.Claim.{Claim}
@@ -30,8 +30,9 @@ pub record Writes (told : Type 0) (sent kept : List Output) (old new : World) : 
   pub readers : (port : Port) → new.begun port ≡ Reading → old.begun port ≡ Reading
   pub content : told → IsWritten sent kept old.content new.content
 
--- each output was written and became its file, and no port was left begun for writing
+-- each output was written and became its file, no call failed, and no port was left begun for writing
 pub record WritesAll (told : Type 0) (outputs : List Output) (old new : World) : Type 0 where
+  pub no_fault : NoFault old new
   pub writes : Writes told outputs outputs old new
   pub writers : (port : Port) → new.begun port ≡ Writing → old.begun port ≡ Writing
 
@@ -69,7 +70,7 @@ ended_by end.NoMemory = NoMemory
 
 -- the ports of both were begun for writing
 pub record AreBegun (told : Type 0) (name proof : List ℕ) (old new : World) : Type 0 where
-  pub later : old.write_faults ≤ new.write_faults
+  pub no_fault : NoFault old new
   pub begun : new.begun ≡ put Proof Writing (put Model Writing old.begun)
   pub content : told → new.content ≡ started Proof proof (started Model name old.content)
 

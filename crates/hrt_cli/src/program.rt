@@ -1,7 +1,7 @@
 // A whole run.
 ghost use Rattle.std.specs.Prelude.{◌≡◌, ◌⊎◌, ◌==◌, ℕ, List, true, IfOk, IfErr, OnOk, OnErr, Some, None};
 ghost use Rattle.hrt_base.specs.declared.port.Port.{Port};
-ghost use Rattle.hrt_base.specs.Calls.{AtStart, Rose, SentPart};
+ghost use Rattle.hrt_base.specs.Calls.{AtStart, NoFault, Rose, SentPart};
 ghost use Rattle.hrt_solve.specs.Writing.{SentWhole};
 ghost use Rattle.hrt_cli.specs.Answers.{EndsEarly, IsCutShort, IsWorked, LeavesFronts, SendsNothing};
 ghost use Rattle.hrt_cli.specs.Ports.{KeepsOtherPorts, ReadsInputs, WritesOutputs};
@@ -21,7 +21,7 @@ use std::alloc::Global;
 /// Does what the words ask for, and answers the code with which the program exits: 0 done, 2 words not understood,
 /// 3 instance refused, 4 a read failed, 5 a write failed, 6 out of memory, 7 a limit passed, 8 model or proof refused, 9 not
 /// weakly stable, 10 shorter than the ceiling, 12 pairs refused.
-#[tactic(auto, using(crate::proofs::Codes::best, crate::proofs::Codes::misused_code, crate::proofs::Codes::understood_code, crate::proofs::Codes::complete, crate::proofs::Codes::read_fault, crate::proofs::Codes::after_read_fault, crate::proofs::Codes::no_output_begun, crate::proofs::Codes::write_fault, crate::proofs::Codes::after_write_fault, crate::proofs::Codes::after_no_memory, crate::proofs::Codes::closed, crate::proofs::Codes::files_kept, crate::proofs::Codes::others_kept, crate::proofs::WrittenModels::model_written, crate::proofs::Codes::known))]
+#[tactic(auto, using(crate::proofs::Codes::best, crate::proofs::Codes::misused_code, crate::proofs::Codes::understood_code, crate::proofs::Codes::complete, crate::proofs::Codes::read_fault, crate::proofs::Codes::after_read_fault, crate::proofs::Codes::no_output_begun, crate::proofs::Codes::write_fault, crate::proofs::Codes::after_write_fault, crate::proofs::Codes::after_no_memory, crate::proofs::Codes::closed, crate::proofs::Codes::no_fault, crate::proofs::Codes::files_kept, crate::proofs::Codes::others_kept, crate::proofs::WrittenModels::model_written, crate::proofs::Codes::known))]
 pub fn run<H: Host>(alloc: Global, words: &[String], host: &mut H) -> u8
     requires { AtStart H.told (H.world host.old) }
     ensures best { H.told → result ≡ 0 → (instance : List ℕ) → request_of (texts_of words.now) ≡ Some (solve instance) → PrintsBest instance (H.world host.old).content (H.world host.new).content }
@@ -44,6 +44,7 @@ pub fn run<H: Host>(alloc: Global, words: &[String], host: &mut H) -> u8
     ensures write_fault { result ≡ 5 → Rose (H.world host.old).write_faults (H.world host.new).write_faults }
     ensures after_write_fault { H.told → result ≡ 5 → IsCutShort (request_of (texts_of words.now)) (H.world host.old) (H.world host.new) }
     ensures after_no_memory { H.told → result ≡ 6 → LeavesFronts (request_of (texts_of words.now)) (H.world host.old).content (H.world host.new).content }
+    ensures no_fault { has_report result ≡ true → NoFault (H.world host.old) (H.world host.new) }
     ensures closed { has_report result ≡ true → (port : Port) → (H.world host.new).begun port ≡ Begun.Writing → ⊥ }
     ensures inputs { ReadsInputs H.told (request_of (texts_of words.now)) (H.world host.old) (H.world host.new) }
     ensures outputs { WritesOutputs H.told (request_of (texts_of words.now)) (H.world host.old) (H.world host.new) }

@@ -3,9 +3,9 @@ use Rattle.std.proofs.Common.{◌≡◌, ℕ, List, Result, Ok, Err, IfOk, OnErr
 use Rattle.std.specs.declared.vec.Vec.{Vec}
 use Rattle.hrt_base.specs.declared.port.Port.{Port}
 use Rattle.hrt_base.specs.declared.port.Port.TheVariants.{Proof}
-use Rattle.hrt_base.specs.Calls.{NotRead, Opened, Taken, TakenPart}
+use Rattle.hrt_base.specs.Calls.{NotRead, Opened, Taken, TakenPart, TakenSoFar}
 use Rattle.hrt_base.specs.World.{World, Content, put, with_rest}
-use Rattle.hrt_base.proofs.Pieces.{port_no-injective}
+use Rattle.hrt_base.proofs.Pieces.{port_no-injective, taken_so_far}
 use Rattle.pb_rows.specs.Formula.{Formula}
 use Rattle.proof_rules.specs.Texts.{Verdict}
 use Rattle.hrt_solve.specs.declared.refusal.CheckRefusal.{CheckRefusal}
@@ -58,12 +58,12 @@ not_read_keeps told But old new not = keeps_same told But old new not.content
 opened_keeps : (told : Type 0) (port : Port) (name : List ℕ) (old new : World) → Opened told port name old new → KeepsPorts told (IsAt port) old new
 opened_keeps told port name old new opened = keeps_read told port old new (λ t. let file = opened.content t in (file.0, file.2))
 
-taken_keeps : (told : Type 0) (port : Port) (bytes : List ℕ) (old new : World) → Taken told port bytes old new → KeepsPorts told (IsAt port) old new
+taken_keeps : (told : Type 0) (port : Port) (bytes : List ℕ) (old new : World) → TakenSoFar told port bytes old new → KeepsPorts told (IsAt port) old new
 taken_keeps told port bytes old new taken = keeps_read told port old new (λ t. (new.content.rest port, taken.content t))
 
 read_keeps_by : {A E : Type 0} (told : Type 0) (port : Port) (r : Result (Vec ℕ A) E) (old new : World) → IfOk r (λ bytes. Taken told port bytes.items old new) → OnErr r (TakenPart told port old new)
     → KeepsPorts told (IsAt port) old new
-read_keeps_by told port (Ok bytes) old new whole part = taken_keeps told port bytes.items old new whole
+read_keeps_by told port (Ok bytes) old new whole part = taken_keeps told port bytes.items old new (taken_so_far told port bytes.items old new whole)
 read_keeps_by told port (Err end) old new whole part = taken_keeps told port part.part.0 old new part.part.1
 
 -- a file that was opened and read, as far as it went
@@ -76,12 +76,12 @@ read_keeps told port name r old mid new opened whole part =
 
 pub judged_keeps : (told : Type 0) (name : List ℕ) (f : Formula) (verdict : Verdict) (old mid new : World) → Opened told Proof name old mid → IsJudged told f verdict mid new → KeepsPorts told (IsAt Proof) old new
 judged_keeps told name f verdict old mid new opened judged =
-    keeps_then told (IsAt Proof) old mid new (opened_keeps told Proof name old mid opened) (taken_keeps told Proof judged.bytes mid new judged.read.taken)
+    keeps_then told (IsAt Proof) old mid new (opened_keeps told Proof name old mid opened) (taken_keeps told Proof judged.bytes mid new (taken_so_far told Proof judged.bytes mid new judged.read.taken))
 
 stopped_by : (told : Type 0) (f : Formula) (refusal : CheckRefusal) (old new : World) → StopsCheck told f refusal old new → KeepsPorts told (IsAt Proof) old new
 stopped_by told f check.Failed old new stopped = taken_keeps told Proof stopped.within.part.0 old new stopped.within.part.2
-stopped_by told f check.TooLong old new stopped = taken_keeps told Proof stopped.part.0 old new stopped.part.2
-stopped_by told f (check.Proof refusal) old new stopped = taken_keeps told Proof stopped.judged.bytes old new stopped.judged.read.taken
+stopped_by told f check.TooLong old new stopped = taken_keeps told Proof stopped.part.0 old new (taken_so_far told Proof stopped.part.0 old new stopped.part.2)
+stopped_by told f (check.Proof refusal) old new stopped = taken_keeps told Proof stopped.judged.bytes old new (taken_so_far told Proof stopped.judged.bytes old new stopped.judged.read.taken)
 stopped_by told f check.NoMemory old new stopped = taken_keeps told Proof stopped.part.0 old new stopped.part.2
 
 pub stopped_keeps : (told : Type 0) (name : List ℕ) (f : Formula) (refusal : CheckRefusal) (old mid new : World) → Opened told Proof name old mid → StopsCheck told f refusal mid new → KeepsPorts told (IsAt Proof) old new

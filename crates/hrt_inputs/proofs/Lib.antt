@@ -5,3 +5,4 @@ mod ProofFiles
 pub mod ReadInstances
 pub mod ReadModels
 pub mod ReadPairs
+pub mod TakenInstances

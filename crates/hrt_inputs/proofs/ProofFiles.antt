@@ -6,9 +6,9 @@ use Rattle.hrt_base.specs.declared.port.Port.{Port}
 use Rattle.hrt_base.specs.declared.port.Port.TheVariants.{Proof}
 use Rattle.hrt_base.specs.declared.host.Begun.{Begun}
 use Rattle.hrt_base.specs.declared.host.Begun.TheVariants.{Idle, Writing}
-use Rattle.hrt_base.specs.Calls.{Opened, Taken}
+use Rattle.hrt_base.specs.Calls.{Opened, Taken, TakenSoFar}
 use Rattle.hrt_base.specs.World.{World, Content, with_rest}
-use Rattle.hrt_base.proofs.Pieces.{put_here, with_rest_twice}
+use Rattle.hrt_base.proofs.Pieces.{put_here, taken_so_far, with_rest_twice}
 use Rattle.pb_rows.specs.Formula.{Formula}
 use Rattle.proof_lines.specs.declared.line.Claim.{Claim}
 use Rattle.proof_rules.specs.Texts.{Verdict}
@@ -23,13 +23,13 @@ use Rattle.hrt_inputs.proofs.Ports.{reading_writers}
 
 -- ---- a port that was begun, and from which bytes were taken
 
-abbrev taken_content : (told : Type 0) (name bytes : List ℕ) (old mid new : World) → Opened told Proof name old mid → Taken told Proof bytes mid new → told → new.content ≡ with_rest Proof (new.content.rest Proof) old.content
+abbrev taken_content : (told : Type 0) (name bytes : List ℕ) (old mid new : World) → Opened told Proof name old mid → TakenSoFar told Proof bytes mid new → told → new.content ≡ with_rest Proof (new.content.rest Proof) old.content
 taken_content told name bytes old mid new opened taken t =
     taken.content t ∙ ap (with_rest Proof (new.content.rest Proof)) (opened.content t).2 ∙ with_rest_twice Proof (opened.content t).0 (new.content.rest Proof) old.content
 
-only_read : (told : Type 0) (name bytes : List ℕ) (old mid new : World) → old.begun Proof ≡ Idle → Opened told Proof name old mid → Taken told Proof bytes mid new → OnlyRead told old new
+only_read : (told : Type 0) (name bytes : List ℕ) (old mid new : World) → old.begun Proof ≡ Idle → Opened told Proof name old mid → TakenSoFar told Proof bytes mid new → OnlyRead told old new
 only_read told name bytes old mid new idle opened taken = record {
-  later = omega (arith, opened.later, taken.later);
+  later = omega (arith, opened.read_faults, taken.later);
   write_faults = taken.write_faults ∙ opened.write_faults;
   writers = λ p. subst (λ (f : Port → Begun). (f p ≡ Writing) ↔ (old.begun p ≡ Writing)) (sym (taken.begun ∙ opened.begun)) (reading_writers Proof old.begun idle p);
   content = λ t.
@@ -49,10 +49,12 @@ judged : (told : Type 0) (name : List ℕ) (f : Formula) (verdict : Verdict) (ol
     → IsProofJudged told name f verdict old new
 judged told name f verdict old mid new idle opened j =
     let taken = j.read.taken in
+    let so_far = taken_so_far told Proof j.bytes mid new taken in
     record {
-      only_read = only_read told name j.bytes old mid new idle opened taken;
+      only_read = only_read told name j.bytes old mid new idle opened so_far;
+      read_faults = taken.read_faults ∙ opened.read_faults;
       begun = taken.begun ∙ opened.begun;
-      content = λ t. taken_content told name j.bytes old mid new opened taken t ∙ ap (λ (l : List ℕ). with_rest Proof l old.content) (j.read.rest t);
+      content = λ t. taken_content told name j.bytes old mid new opened so_far t ∙ ap (λ (l : List ℕ). with_rest Proof l old.content) (j.read.rest t);
       judged = λ t. (
         j.bytes,
         file_taken told name j.bytes old mid new opened taken t ∙ ap (λ (l : List ℕ). Some (j.bytes ++ l)) (j.read.rest t) ∙ ap (λ (l : List ℕ). Some l) (append-nil j.bytes),
@@ -64,10 +66,11 @@ judged told name f verdict old mid new idle opened j =
 too_long : (told : Type 0) (name bytes : List ℕ) (old mid new : World) → old.begun Proof ≡ Idle → Opened told Proof name old mid → Taken told Proof bytes mid new → most_proof_bytes < length bytes
     → IsTooLong told Proof name most_proof_bytes old new
 too_long told name bytes old mid new idle opened taken long = record {
-  only_read = only_read told name bytes old mid new idle opened taken;
+  only_read = only_read told name bytes old mid new idle opened (taken_so_far told Proof bytes mid new taken);
+  read_faults = taken.read_faults ∙ opened.read_faults;
   begun = taken.begun ∙ opened.begun;
   file = λ t. (bytes ++ new.content.rest Proof, file_taken told name bytes old mid new opened taken t, omega (arith, length-append bytes (new.content.rest Proof)));
-  content = taken_content told name bytes old mid new opened taken;
+  content = taken_content told name bytes old mid new opened (taken_so_far told Proof bytes mid new taken);
 }
 
 -- ---- why it is not accepted
@@ -76,7 +79,7 @@ stops : (told : Type 0) (name : List ℕ) (f : Formula) (refusal : CheckRefusal)
     → StopsProof told name f (check_stop refusal) old new
 stops told name f check.Failed old mid new idle opened stopped = record {
   only_read = only_read told name stopped.within.part.0 old mid new idle opened stopped.within.part.2;
-  rose = let rose = stopped.rose in let later = opened.later in omega arith;
+  rose = let rose = stopped.rose in let before = opened.read_faults in omega arith;
 }
 stops told name f check.TooLong old mid new idle opened stopped = record { is = refl; too_long = too_long told name stopped.part.0 old mid new idle opened stopped.part.2 stopped.part.1 }
 stops told name f (check.Proof refusal) old mid new idle opened stopped = record { verdict = stopped.verdict; is = stopped.is; judged = judged told name f stopped.verdict old mid new idle opened stopped.judged }

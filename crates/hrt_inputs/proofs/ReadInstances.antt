@@ -3,7 +3,9 @@ use Rattle.std.proofs.Common.{◌≡◌, ℕ, Bool, true, false, ◌==◌, nat_l
 use Rattle.rank_tables.specs.Instance.{Lists, pair_count}
 use Rattle.rank_tables.specs.Terms.{model_terms}
 use Rattle.hrt_text.specs.Text.{rows}
-use Rattle.hrt_reader.specs.Refusal.{Refusal, Spells, refusal, lists_of_rows}
+use Rattle.hrt_reader.specs.Accepted.{Spells}
+use Rattle.hrt_reader.specs.Refusal.{Refusal, refusal, lists_of_rows}
+use Rattle.hrt_reader.proofs.Declared.{spells_from}
 use Rattle.hrt_inputs.specs.declared.limit.Limit.TheVariants.{Residents, Hospitals, Pairs, Terms, InstanceBytes}
 use Rattle.hrt_inputs.specs.declared.limit.Limit.{Limit}
 use Rattle.hrt_inputs.specs.Limits.{most}
@@ -32,7 +34,7 @@ spelled bytes found e = by (nat_lt (most InstanceBytes) (length bytes)) e
     unrefused : unless_refused (refusal (rows bytes)) (lists_of_rows (rows bytes)) ≡ Ok found → Spells bytes found
     unrefused h =
         let none = none_refused (refusal (rows bytes)) (lists_of_rows (rows bytes)) found h in
-        record { accepted = none; says = ok_is (lists_of_rows (rows bytes)) found (ap (λ (r : Option Refusal). unless_refused r (lists_of_rows (rows bytes))) (sym none) ∙ h) }
+        spells_from bytes found (record { accepted = none; says = ok_is (lists_of_rows (rows bytes)) found (ap (λ (r : Option Refusal). unless_refused r (lists_of_rows (rows bytes))) (sym none) ∙ h) })
 
     by : (b : Bool) → cond {A = Result Lists Rejection} b (Err (exceeded InstanceBytes)) (unless_refused (refusal (rows bytes)) (lists_of_rows (rows bytes))) ≡ Ok found → Spells bytes found
     by true h = absurd (cc)
@@ -46,7 +48,7 @@ of_within limit (Ok found) lists e = by (nat_lt (most limit) (pair_count found))
     by true h = absurd (cc)
     by false h = h
 
-of_terms : (r : Result Lists Rejection) (lists : Lists) → of_few_terms r ≡ Ok lists → r ≡ Ok lists
+pub of_terms : (r : Result Lists Rejection) (lists : Lists) → of_few_terms r ≡ Ok lists → r ≡ Ok lists
 of_terms (Err rejection) lists e = absurd (cc)
 of_terms (Ok found) lists e = by (nat_lt (most Terms) (model_terms found)) e
   where

@@ -20,16 +20,18 @@ pub record OnlyRead (told : Type 0) (old new : World) : Type 0 where
   pub writers : (p : Port) → (new.begun p ≡ Writing) ↔ (old.begun p ≡ Writing)
   pub content : told → new.content ≡ but_for_rest old.content new.content
 
--- a file was read to its end on a port
+-- a file was read to its end on a port, and no call failed
 pub record WasRead (told : Type 0) (port : Port) (name bytes : List ℕ) (old new : World) : Type 0 where
   pub only_read : OnlyRead told old new
+  pub read_faults : new.read_faults ≡ old.read_faults
   pub begun : new.begun ≡ put port Reading old.begun
   pub file : told → old.content.file name ≡ Some bytes
   pub content : told → new.content ≡ with_rest port [] old.content
 
--- a file has more bytes than the limit; how far it was read isn't told
+-- a file has more bytes than the limit, and no call failed; how far it was read isn't told
 pub record IsTooLong (told : Type 0) (port : Port) (name : List ℕ) (limit : ℕ) (old new : World) : Type 0 where
   pub only_read : OnlyRead told old new
+  pub read_faults : new.read_faults ≡ old.read_faults
   pub begun : new.begun ≡ put port Reading old.begun
   pub file : told → (bytes : List ℕ) × (old.content.file name ≡ Some bytes) × (limit < length bytes)
   pub content : told → new.content ≡ with_rest port (new.content.rest port) old.content

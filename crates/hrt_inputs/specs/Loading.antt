@@ -26,16 +26,18 @@ StopsText lists (ProofRefused refusal) = ⊥
 StopsText lists ReadFault = ⊥
 StopsText lists NoMemory = Unit {0}
 
--- a file was read to its end on a port, and its bytes are read as this value
+-- a file was read to its end on a port with no call failed, and its bytes are read as this value
 pub record IsRead {A : Type 0} (told : Type 0) (port : Port) (name : List ℕ) (read : List ℕ → Result A Rejection) (value : A) (old new : World) : Type 0 where
   pub only_read : OnlyRead told old new
+  pub read_faults : new.read_faults ≡ old.read_faults
   pub begun : new.begun ≡ put port Reading old.begun
   pub content : told → new.content ≡ with_rest port [] old.content
   pub spelled : told → (bytes : List ℕ) × (old.content.file name ≡ Some bytes) × (read bytes ≡ Ok value)
 
--- a file was read on a port to its end, or further than its limit, and is not taken
+-- a file was read on a port to its end, or further than its limit, with no call failed, and is not taken
 pub record IsNotTaken {A : Type 0} (told : Type 0) (port : Port) (name : List ℕ) (limit : Limit) (read : List ℕ → Result A Rejection) (rejection : Rejection) (old new : World) : Type 0 where
   pub only_read : OnlyRead told old new
+  pub read_faults : new.read_faults ≡ old.read_faults
   pub begun : new.begun ≡ put port Reading old.begun
   pub content : told → new.content ≡ with_rest port (new.content.rest port) old.content
   pub out : told → (new.content.rest port ≡ []) ⊎ (rejection ≡ exceeded limit)

@@ -17,9 +17,10 @@ use Rattle.hrt_inputs.specs.Inputs.{IsTooLong, OnlyRead}
 use Rattle.hrt_inputs.specs.Limits.{most}
 use Rattle.hrt_inputs.specs.Loading.{FailedToRead}
 
--- the file was read to its end, and this is its verdict over the formula
+-- the file was read to its end with no call failed, and this is its verdict over the formula
 pub record IsProofJudged (told : Type 0) (name : List ℕ) (f : Formula) (verdict : Verdict) (old new : World) : Type 0 where
   pub only_read : OnlyRead told old new
+  pub read_faults : new.read_faults ≡ old.read_faults
   pub begun : new.begun ≡ put Proof Reading old.begun
   pub content : told → new.content ≡ with_rest Proof [] old.content
   pub judged : told → (bytes : List ℕ) × (old.content.file name ≡ Some bytes) × (length bytes ≤ most ProofBytes) × HasVerdict f bytes verdict

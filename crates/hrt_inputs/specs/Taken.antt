@@ -1,8 +1,9 @@
 -- What the bytes of a file are read as, if they are taken.
-use Rattle.std.specs.Prelude.{◌≡◌, ℕ, ◌==◌, nat_lt, if◌then◌else◌, List, length, Option, Some, None, Result, Ok, Err}
+use Rattle.std.specs.Prelude.{◌≡◌, ◌≤◌, ℕ, ◌==◌, nat_lt, if◌then◌else◌, List, length, Option, Some, None, Result, Ok, Err}
 use Rattle.rank_tables.specs.Instance.{Lists, pair_count}
 use Rattle.rank_tables.specs.Terms.{model_terms}
 use Rattle.hrt_text.specs.Text.{rows}
+use Rattle.hrt_reader.specs.Accepted.{Spells}
 use Rattle.hrt_reader.specs.PairsText.{pairs_of_rows, pairs_refusal}
 use Rattle.hrt_reader.specs.Refusal.{Refusal, refusal, lists_of_rows}
 use Rattle.pb_rows.specs.Formula.{Formula}
@@ -44,6 +45,13 @@ of_few_terms (Ok lists) = if nat_lt (most Terms) (model_terms lists) then Err (e
 -- the lists of an instance that is taken, or why it isn't
 abbrev pub taken_lists : List ℕ → Result Lists Rejection
 taken_lists bytes = of_few_terms (within Pairs (lists_in bytes))
+
+-- The bytes are a spelling of these lists, and within the limits: these are the lists that are taken (`taken_where_spelled`).
+pub record IsInstance (bytes : List ℕ) (lists : Lists) : Type 0 where
+  pub short : length bytes ≤ most InstanceBytes
+  pub spelled : Spells bytes lists
+  pub few_pairs : pair_count lists ≤ most Pairs
+  pub few_terms : model_terms lists ≤ most Terms
 
 -- a file is there, and what is read in it is taken
 pub record IsTakenAs {A : Type 0} (read : List ℕ → Result A Rejection) (file : Option (List ℕ)) : Type 0 where

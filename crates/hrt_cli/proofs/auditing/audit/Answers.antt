@@ -4,6 +4,7 @@ use Rattle.rank_tables.specs.Tables.{numbers_of}
 use Rattle.hrt_cli.specs.Answers.{IsAnswer}
 use Rattle.hrt_cli.specs.Verdicts.{audited}
 use Rattle.hrt_cli.proofs.AuditedPairs.{pairs_answered, pairs_stopped}
+use Rattle.hrt_cli.proofs.BegunPorts.{audit_reads_two}
 use Rattle.hrt_cli.proofs.auditing.audit.Goals as goal
 
 pub returns-in-Ok-load_pairs-clause-answered : goal.returns-in-Ok-load_pairs-clause-answered
@@ -13,3 +14,9 @@ returns-in-Ok-load_pairs-clause-answered g c =
 
 pub returns-clause-answered : goal.returns-clause-answered
 returns-clause-answered g c = pairs_stopped _ _ _ _ _ _ _ _ _ c.requires c.in-Ok.ensures.loaded c.in-Err-load_pairs.ensures.stopped c.explain-in-Err-load_pairs.ensures.told
+
+pub returns-in-Ok-load_pairs-clause-inputs : goal.returns-in-Ok-load_pairs-clause-inputs
+returns-in-Ok-load_pairs-clause-inputs g c = audit_reads_two _ _ _ _ _ _ _ c.requires c.load.ensures.begun c.in-Ok.ensures.loaded c.load_pairs.ensures.begun
+
+pub returns-clause-inputs : goal.returns-clause-inputs
+returns-clause-inputs g c = audit_reads_two _ _ _ _ _ _ _ c.requires c.load.ensures.begun c.in-Ok.ensures.loaded c.load_pairs.ensures.begun

@@ -8,6 +8,7 @@ mod Standing
 mod Fronts
 mod Taken
 pub mod Solutions
+pub mod ShortRows
 mod Asked
 pub mod Starts
 mod Counts

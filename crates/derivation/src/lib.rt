@@ -18,6 +18,6 @@ pub use deleted::Deleted;
 pub use derivation::Derivation;
 pub use laws::{
     cuts_stay_lawful, ends_are_lawful, fresh_rows_are_open, held_rows_are_loaded,
-    lawful_pieces_stay_lawful, starts_are_lawful, texts_are_fronts,
+    lawful_pieces_stay_lawful, made_rows_are_short, starts_are_lawful, texts_are_fronts,
 };
 pub use refusal::PolRefusal;

@@ -3,6 +3,7 @@ use Rattle.std.specs.Prelude.{ℕ}
 use Rattle.hrt_inputs.specs.declared.limit.Limit.{Limit}
 use Rattle.hrt_inputs.specs.declared.limit.Limit.TheVariants.{Residents, Hospitals, Pairs, TriedPairs, Terms, InstanceBytes, PairsBytes, ModelBytes, Variables, Rows, ProofBytes}
 use Rattle.rank_tables.specs.WellFormed.{most_residents, most_hospitals, most_pairs, most_terms}
+use Rattle.plain_enumeration.specs.Sets.{most_pairs_tried}
 use Rattle.opb_text.specs.Limits.{most_rows, most_variables}
 use Rattle.proof_checker.specs.Limits.{most_proof_bytes}
 
@@ -11,7 +12,7 @@ abbrev pub most : Limit → ℕ
 most Residents = most_residents
 most Hospitals = most_hospitals
 most Pairs = most_pairs
-most TriedPairs = 12
+most TriedPairs = most_pairs_tried
 most Terms = most_terms
 most InstanceBytes = 67108864
 most PairsBytes = 67108864

@@ -15,6 +15,7 @@ use Rattle.rank_tables.specs.Numbers.{numbers_to}
 use Rattle.rank_tables.specs.Instance.{Lists, pair_count}
 use Rattle.rank_tables.proofs.Below.{length-numbers_to}
 use Rattle.stability_model.specs.Model.{formula, objective}
+use Rattle.stability_model.proofs.ShortRows.{minus_sizes}
 use Rattle.proof_lines.specs.declared.line.PolStep.{PolStep}
 use Rattle.proof_lines.specs.declared.line.PolStep.TheVariants.{Id, Add}
 use Rattle.proof_lines.specs.declared.line.Line.TheVariants.{Pol}
@@ -27,7 +28,6 @@ use Rattle.proof_rules.specs.Claims.{at_least_row}
 use Rattle.proof_rules.proofs.Fits.{fits-normal_form, fits_true, normal_form-degree, normal_form-rises, normal_form-sum, sizes-minus}
 use Rattle.derivation.specs.Derived.{Derived}
 use Rattle.derivation.specs.Steps.{IsWritable, Takes, with_new_row}
-use Rattle.derivation.proofs.Solutions.{sizes_objective}
 use Rattle.proof_rules.proofs.Numbers.{live_within}
 use Rattle.hrt_solve.specs.Gauged.{HasBoundRow, IsGauged, value_of}
 use Rattle.hrt_solve.specs.Lawful.{AddsClosing}
@@ -59,7 +59,7 @@ closing_fits lists n size few h k =
     (omega (arith, small, value_size n)) (omega (arith, small, sizes-minus (objective lists), less_size size)))
   where
     small : sizes (objective lists) ≤ 100000
-    small = omega (arith, few, sizes_objective (numbers_to (pair_count lists)), length-numbers_to (pair_count lists))
+    small = omega (arith, few, minus_sizes (numbers_to (pair_count lists)), length-numbers_to (pair_count lists))
 
 -- ---- the line
 

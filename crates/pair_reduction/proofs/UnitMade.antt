@@ -27,14 +27,12 @@ use Rattle.derivation.specs.Deletions.{unit_row}
 use Rattle.derivation.specs.Derived.{Derived}
 use Rattle.derivation.specs.Pieces.{TakesLine, TakesNote}
 use Rattle.derivation.specs.Steps.{IsWritable, Takes, with_note, written_of}
+use Rattle.derivation.proofs.ShortRows.{unit_formed}
 use Rattle.derivation.proofs.Readiness.{row_last, row_numbered}
 use Rattle.pair_reduction.specs.Reduced.{AddsUnit, StopsAtUnit, with_unit, with_unit_row}
 
-unit_normal : (p : ℕ) → IsWellFormedRow (unit_row p)
-unit_normal p = record { rising = (zero-le, omega arith, tt); fits = record { sum = omega arith; degree = omega arith } }
-
 pub unit_form : (p : ℕ) → normal_form (weighing 1 (record { var = p; neg = true }) ∷ []) (pos 1) ≡ unit_row p
-unit_form p = normal_form-normal (unit_row p) (unit_normal p)
+unit_form p = normal_form-normal (unit_row p) (unit_formed p)
 
 pub row_is : {E : Type 0} (p : ℕ) (result : Result PlainRow E) → IfOk result (λ row. row ≡ normal_form (weighing 1 (record { var = p; neg = true }) ∷ []) (pos 1)) → IfOk result (λ row. row ≡ unit_row p)
 row_is p (Ok row) h = h ∙ unit_form p

@@ -1,2 +1,3 @@
 mod Stacks
 mod Values
+mod Waiting

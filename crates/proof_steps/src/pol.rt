@@ -73,10 +73,10 @@ fn add_top(alloc: Global, stack: &mut Stack) -> Result<(), StepRefusal>
     ensures ok { OnOk result (add_top stack.old ≡ Ok stack.new) }
     ensures refused { IfErr result (Refuses (add_top stack.old)) }
 {
-    let Some(upper) = stack.pop() else {
+    let Some(upper) = stack.pop()? else {
         return Err(StepRefusal::StackShape);
     };
-    let Some(mut row) = stack.pop() else {
+    let Some(mut row) = stack.pop()? else {
         return Err(StepRefusal::StackShape);
     };
     match row.add(alloc, &upper) {
@@ -95,7 +95,7 @@ fn multiply_top(k: i128, stack: &mut Stack) -> Result<(), StepRefusal>
     ensures ok { OnOk result (on_top (times (positive_part k)) stack.old ≡ Ok stack.new) }
     ensures refused { IfErr result (Refuses (on_top (times (positive_part k)) stack.old)) }
 {
-    let Some(mut row) = stack.pop() else {
+    let Some(mut row) = stack.pop()? else {
         return Err(StepRefusal::StackShape);
     };
     match row.times(k) {
@@ -113,7 +113,7 @@ fn divide_top(k: i128, stack: &mut Stack) -> Result<(), StepRefusal>
     ensures ok { OnOk result (on_top (divide (positive_part k)) stack.old ≡ Ok stack.new) }
     ensures refused { IfErr result (Refuses (on_top (divide (positive_part k)) stack.old)) }
 {
-    let Some(mut row) = stack.pop() else {
+    let Some(mut row) = stack.pop()? else {
         return Err(StepRefusal::StackShape);
     };
     row.divide(k);
@@ -126,7 +126,7 @@ fn saturate_top(stack: &mut Stack) -> Result<(), StepRefusal>
     ensures ok { OnOk result (on_top saturate stack.old ≡ Ok stack.new) }
     ensures refused { IfErr result (Refuses (on_top saturate stack.old)) }
 {
-    let Some(mut row) = stack.pop() else {
+    let Some(mut row) = stack.pop()? else {
         return Err(StepRefusal::StackShape);
     };
     row.saturate();
@@ -142,11 +142,9 @@ fn weaken_top(vars: u32, var: u32, stack: &mut Stack) -> Result<(), StepRefusal>
     if var > vars {
         return Err(StepRefusal::BadVariable(var));
     }
-    let Some(mut row) = stack.pop() else {
+    if !stack.weaken(var)? {
         return Err(StepRefusal::StackShape);
-    };
-    row.weaken(var);
-    push_made(stack, row)?;
+    }
     Ok(())
 }
 
@@ -196,10 +194,10 @@ fn only_row(mut stack: Stack) -> Result<Row, StepRefusal>
     ensures ok { IfOk result (λ row. only_row stack ≡ Ok row) }
     ensures refused { IfErr result (Refuses (only_row stack)) }
 {
-    let Some(row) = stack.pop() else {
+    let Some(row) = stack.pop()? else {
         return Err(StepRefusal::StackShape);
     };
-    if stack.pop().is_some() {
+    if stack.pop()?.is_some() {
         return Err(StepRefusal::StackShape);
     }
     Ok(row)

@@ -71,3 +71,19 @@ def write_instance(path, lists, named, posts_of, opened, closed):
             file.write(f"hospital h{h} {posts_of(h)}: {opened}" + " ".join(f"r{r}" for r in list) + f"{closed}\n")
         file.write("end\n")
 '
+
+# chained_instance PATH POSTS LINKS: a hospital with so many posts, and for each link one that takes its resident in the place of
+# another. Prints the sum, over pairs, of the lengths of the two lists in which a pair stands.
+chained_instance() {
+  python3 -c "$lists_of_pairs"'
+path, posts, links = sys.argv[1], *map(int, sys.argv[2:])
+waiting = [[k + 1, 0] for k in range(links)]
+staying = [[0]] * (posts - links)
+refused = [[0]] + [[0, k + 1] for k in reversed(range(links))]
+lists = waiting + staying + refused
+last = len(lists) - 1
+named = [list(range(len(lists)))] + [[last - k, k] for k in range(links)]
+write_instance(path, lists, named, lambda h: 1 if h else posts, "", "")
+print(sum(len(list) ** 2 for list in lists) + sum(len(list) ** 2 for list in named))
+' "$@"
+}

@@ -80,20 +80,6 @@ write_instance(path, lists, named, lambda h: 0 if h % every else posts, "", "")
 print(residents * choices * choices + sum(len(list) ** 2 for list in named))
 ' "$@"
 }
-# chained_lists PATH POSTS LINKS: a hospital with so many posts, and for each link one that takes its resident in the place of another
-chained_lists() {
-  python3 -c "$lists_of_pairs"'
-path, posts, links = sys.argv[1], *map(int, sys.argv[2:])
-waiting = [[k + 1, 0] for k in range(links)]
-staying = [[0]] * (posts - links)
-refused = [[0]] + [[0, k + 1] for k in reversed(range(links))]
-lists = waiting + staying + refused
-last = len(lists) - 1
-named = [list(range(len(lists)))] + [[last - k, k] for k in range(links)]
-write_instance(path, lists, named, lambda h: 1 if h else posts, "", "")
-print(sum(len(list) ** 2 for list in lists) + sum(len(list) ** 2 for list in named))
-' "$@"
-}
 # times_of SHAPE..: one line on the instance, whose steps are given first
 times_of() {
   read -r _ peak _ pairs deleted made reduced <<< "$(measured "$work/crates/reducing/out/reducing" "$work/i.hrt")"
@@ -106,5 +92,5 @@ for shape in '1000 1000 10 1 1' '10000 10000 10 1 1' '10000 10000 10 2 1' '200 2
 done
 for chain in '100 80' '200 160' '400 320' '800 640'; do
   read -r posts links <<< "$chain"
-  times_of "$(chained_lists "$work/i.hrt" "$posts" "$links")" $((posts + links + 1)) $((links + 1)) "$posts" -
+  times_of "$(chained_instance "$work/i.hrt" "$posts" "$links")" $((posts + links + 1)) $((links + 1)) "$posts" -
 done

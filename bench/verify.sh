@@ -1,10 +1,15 @@
 #!/usr/bin/env bash
-# Writes proofs and checks them with the built program, and prints seconds and peak memory of both side by side. First those that
-# `quick` writes: on drawn instances of 100 to 2,000 residents with six choices each, hospitals of some 15 posts, and four of ten
-# neighbours in a list tied; then on the chains of reduce.sh, of which each takes an offer of a large hospital for each link. Then
-# proofs that python3 writes, which `check` judges: short `rup` lines that touch two rows each, over 100,000 rows of which 10,000
-# are units; and cuts, which add two rows of 80 terms, weaken, divide, multiply, add and saturate, and are deleted at once, over
-# rows of 8,000,000 terms in all. The model alone, with no line, stands before each of these.
+# Checks proofs with the built program, and prints seconds and peak memory.
+# The first table has proofs that `quick` writes, what writing them took beside what `verify` took: on drawn instances of 100 to
+# 2,000 residents with six choices each, hospitals of some 15 posts, and four of ten neighbours in a list tied; then on the chains
+# of reduce.sh, of which each takes an offer of a large hospital for each link. A line that deletes a pair goes, for each post of its
+# hospital, through as many offers: `squares` is the sum of the squares of the posts, over the pairs deleted. It shows that checking
+# such proofs grows no faster than these squares.
+# The second table has proofs that python3 writes, which `check` judges: short `rup` lines that touch two rows each, over 100,000
+# rows of which 10,000 are units; and cuts, which add two rows of 80 terms, weaken, divide, multiply, add and saturate, and are
+# deleted by the next line, over rows of 8,000,000 terms in all. The model alone, with no line, stands before each, and its seconds
+# are left out of those for a part, which is a `rup` line or a term of a row that a cut names. It shows that neither grows with the
+# rows that a line doesn't touch.
 . "$(dirname "$0")/common.sh"
 # drawn_instance PATH RESIDENTS: six choices, hospitals of some 15 posts, two neighbours of a list tied with 40 %
 drawn_instance() {
@@ -37,27 +42,34 @@ with open(path, "w") as file:
     file.write("end\n")
 ' "$@"
 }
-# chained_instance PATH POSTS LINKS: as in reduce.sh
-chained_instance() {
-  python3 -c "$lists_of_pairs"'
-path, posts, links = sys.argv[1], *map(int, sys.argv[2:])
-waiting = [[k + 1, 0] for k in range(links)]
-staying = [[0]] * (posts - links)
-refused = [[0]] + [[0, k + 1] for k in reversed(range(links))]
-lists = waiting + staying + refused
-last = len(lists) - 1
-named = [list(range(len(lists)))] + [[last - k, k] for k in range(links)]
-write_instance(path, lists, named, lambda h: 1 if h else posts, "", "")
+# squares_of INSTANCE PROOF: how many pairs the proof deletes, and the sum of the squares of their hospitals' posts. Pairs are
+# numbered as they stand in the lists of residents, where each side names the other.
+squares_of() {
+  python3 -c '
+import re, sys
+posts, hospital_of = {}, []
+for line in open(sys.argv[1]):
+    words = re.sub(r"[():]", " ", line).split()
+    if words[0] == "resident":
+        hospital_of += words[2:]
+    elif words[0] == "hospital":
+        posts[words[1]] = int(words[2])
+gone = [int(line.split()[2][2:]) for line in open(sys.argv[2]) if line.startswith("rup ")]
+print(len(gone), sum(posts[hospital_of[p - 1]] ** 2 for p in gone))
 ' "$@"
 }
 # short_lines MODEL PROOF LINES: 10,000 units, and pairs of rows of eight terms, six of them of literals that the units make false;
-# each line follows from one such pair
+# each line follows from one such pair, whose three other variables no further row has
 short_lines() {
   python3 -c '
 import random, sys
 model, proof, lines = sys.argv[1], sys.argv[2], int(sys.argv[3])
 random.seed(7)
-units, pairs = 10000, 45000
+units, pairs, variables = 10000, 45000, 100000
+triples = (variables - units) // 3
+alone = pairs - triples
+def first_of(pair):
+    return units + 1 + 3 * (pair % triples)
 def false_literals():
     return " ".join(f"+1 x{v}" for v in sorted(random.sample(range(1, units + 1), 6)))
 with open(model, "w") as file:
@@ -65,12 +77,12 @@ with open(model, "w") as file:
     for v in range(1, units + 1):
         file.write(f"+1 ~x{v} >= 1 ;\n")
     for k in range(pairs):
-        a = units + 1 + 3 * k
+        a = first_of(k)
         file.write(f"{false_literals()} +1 ~x{a} +1 x{a + 1} >= 1 ;\n{false_literals()} +1 ~x{a + 1} +1 x{a + 2} >= 1 ;\n")
 with open(proof, "w") as file:
     file.write(f"pseudo-Boolean proof version 2.0\nf {units + 2 * pairs}\n")
     for k in range(lines):
-        a = units + 1 + 3 * k
+        a = first_of(alone + k)
         file.write(f"rup +1 ~x{a} +1 x{a + 2} >= 1 ;\n")
     file.write("output NONE\nconclusion NONE\nend pseudo-Boolean proof\n")
 ' "$@"
@@ -97,25 +109,39 @@ with open(proof, "w") as file:
     file.write("output NONE\nconclusion NONE\nend pseudo-Boolean proof\n")
 ' "$@"
 }
-printf '%-8s %6s %7s %8s %9s %9s %9s %9s %7s %s\n' shape size deleted MiB writing 'peak MiB' verifying 'peak MiB' status report
+# ratio AMOUNT COUNT: microseconds for each of COUNT, or `-` where there is none
+ratio() {
+  if [ "$2" -eq 0 ]; then echo -; else per "$2" "$1" 1e6; fi
+}
 # both_on SHAPE SIZE: writes the proof of the instance and verifies it
 both_on() {
+  local writing peak verifying other status told gone squares
   read -r writing peak _ < <(measured "$program" quick "$work/i.hrt" "$work/m.opb" "$work/p.pbp")
   read -r verifying other status told < <(measured "$program" verify "$work/i.hrt" "$work/p.pbp")
-  printf '%-8s %6s %7s %8s %9.3f %9s %9.3f %9s %7s %s\n' "$1" "$2" "$(grep -c '^rup' "$work/p.pbp" || true)" "$(mebibytes "$work/p.pbp")" "$writing" "$peak" "$verifying" "$other" "$status" "$told"
+  read -r gone squares < <(squares_of "$work/i.hrt" "$work/p.pbp")
+  printf '%-6s %6s %7s %10s %8s %9.3f %9s %9.3f %9s %9s %7s %s\n' "$1" "$2" "$gone" "$squares" "$(mebibytes "$work/p.pbp")" "$writing" "$peak" "$verifying" "$other" "$(ratio "$verifying" "$squares")" "$status" "$told"
 }
+printf '%-6s %6s %7s %10s %8s %9s %9s %9s %9s %9s %7s %s\n' shape size deleted squares MiB writing 'peak MiB' verifying 'peak MiB' us/square status report
 for residents in 100 200 400 800 2000; do
   drawn_instance "$work/i.hrt" "$residents"
   both_on drawn "$residents"
 done
 for chain in '100 80' '200 160' '400 320' '800 640'; do
-  chained_instance "$work/i.hrt" $chain
+  chained_instance "$work/i.hrt" $chain > "$work/steps"
   both_on chain "${chain% *}"
 done
-printf '\n%-8s %8s %9s %9s %7s %s\n' lines count checking 'peak MiB' status report
-for shape in 'short_lines 0' 'short_lines 10000' 'cuts 0' 'cuts 150000'; do
-  read -r kind count <<< "$shape"
-  "$kind" "$work/m.opb" "$work/p.pbp" "$count"
+printf '\n%-6s %8s %10s %9s %9s %8s %7s %s\n' lines count parts checking 'peak MiB' us/part status report
+# judged_on KIND COUNT PARTS: a proof with so many lines, each of so many parts
+judged_on() {
+  local seconds peak status told parts=$(($2 * $3))
+  "$1" "$work/m.opb" "$work/p.pbp" "$2"
   read -r seconds peak status told < <(measured "$program" check "$work/m.opb" "$work/p.pbp")
-  printf '%-8s %8s %9.3f %9s %7s %s\n' "${kind%%_*}" "$count" "$seconds" "$peak" "$status" "$told"
+  if [ "$2" -eq 0 ]; then alone=$seconds; fi
+  printf '%-6s %8s %10s %9.3f %9s %8s %7s %s\n' "${1%%_*}" "$2" "$parts" "$seconds" "$peak" "$(ratio "$(python3 -c 'import sys; print(float(sys.argv[1]) - float(sys.argv[2]))' "$seconds" "$alone")" "$parts")" "$status" "$told"
+}
+for count in 0 1000 10000; do
+  judged_on short_lines "$count" 1
+done
+for count in 0 15000 150000; do
+  judged_on cuts "$count" 160
 done

@@ -15,8 +15,6 @@ mod pieces;
 mod reading;
 mod refusals;
 mod stages;
-#[cfg(test)]
-mod tests;
 mod writing;
 
 pub use law::{

@@ -10,8 +10,6 @@ mod objective;
 mod reading;
 mod refusal;
 mod spelled;
-#[cfg(test)]
-mod tests;
 mod writing;
 
 pub use formula::{Formula, formula_of};

@@ -1,9 +1,10 @@
-//! Each public call once, with ample memory.
-ghost use Rattle.std.specs.Prelude.{◌≡◌, ◌≤◌, [], ◌∷◌, true, false, length, IfOk};
+//! Lists with ties, and the tables of an instance: each public call once, with ample memory.
+ghost use Rattle.std.specs.Prelude.{◌≡◌, ◌≤◌, [], ◌∷◌, length, IfOk};
 ghost use Rattle.rank_tables.specs.Instance.{pair_count};
 
-use crate::{Draft, DraftHospital, DraftResident, Groups, Instance, Name};
+use crate::drafts::{hospital, one, resident, three, two};
 use hrt_base::{NoMemory, PairNo};
+use rank_tables::{Draft, DraftHospital, DraftResident, Groups, Instance, Name};
 use std::alloc::Global;
 use std::test::Fail;
 
@@ -27,17 +28,6 @@ fn groups(rt: HostRuntime) -> Result<(), Fail> {
     Ok(())
 }
 
-// A list of two groups, the first of two numbers where it is tied.
-fn list_of(alloc: Global, first: u32, second: u32, tied: bool) -> Result<Groups, NoMemory>
-    ensures together { tied ≡ true → IfOk result (λ list. list ≡ (first ∷ second ∷ []) ∷ []) }
-    ensures apart { tied ≡ false → IfOk result (λ list. list ≡ (first ∷ []) ∷ (second ∷ []) ∷ []) }
-{
-    let mut list = Groups::new(alloc);
-    list.push(first, false)?;
-    list.push(second, tied)?;
-    Ok(list)
-}
-
 // a: (x y) z, b: y x, c: x z
 fn residents(alloc: Global) -> Result<Vec<DraftResident>, NoMemory>
     ensures { IfOk result (λ residents. residents.items
@@ -45,22 +35,10 @@ fn residents(alloc: Global) -> Result<Vec<DraftResident>, NoMemory>
         ∷ record { name = 98 ∷ []; groups = (1 ∷ []) ∷ (0 ∷ []) ∷ [] }
         ∷ record { name = 99 ∷ []; groups = (0 ∷ []) ∷ (2 ∷ []) ∷ [] } ∷ []) }
 {
-    let mut first = list_of(alloc, 0, 1, true)?;
-    first.push(2, false)?;
-    let mut residents = Vec::new(alloc);
-    residents.push(DraftResident {
-        name: Name::new(alloc, b"a".as_slice())?,
-        groups: first,
-    })?;
-    residents.push(DraftResident {
-        name: Name::new(alloc, b"b".as_slice())?,
-        groups: list_of(alloc, 1, 0, false)?,
-    })?;
-    residents.push(DraftResident {
-        name: Name::new(alloc, b"c".as_slice())?,
-        groups: list_of(alloc, 0, 2, false)?,
-    })?;
-    Ok(residents)
+    let a = resident(alloc, b"a".as_slice(), three(alloc, 0, 1, false)?)?;
+    let b = resident(alloc, b"b".as_slice(), two(alloc, 1, 0, false)?)?;
+    let c = resident(alloc, b"c".as_slice(), two(alloc, 0, 2, false)?)?;
+    Ok(vec![in alloc; a, b, c]?)
 }
 
 // x 1: (b a) c, y 2: b a, z 1: a
@@ -70,27 +48,10 @@ fn hospitals(alloc: Global) -> Result<Vec<DraftHospital>, NoMemory>
         ∷ record { name = 121 ∷ []; capacity = 2; groups = (1 ∷ []) ∷ (0 ∷ []) ∷ [] }
         ∷ record { name = 122 ∷ []; capacity = 1; groups = (0 ∷ []) ∷ [] } ∷ []) }
 {
-    let mut first = list_of(alloc, 1, 0, true)?;
-    first.push(2, false)?;
-    let mut third = Groups::new(alloc);
-    third.push(0, false)?;
-    let mut hospitals = Vec::new(alloc);
-    hospitals.push(DraftHospital {
-        name: Name::new(alloc, b"x".as_slice())?,
-        capacity: 1,
-        groups: first,
-    })?;
-    hospitals.push(DraftHospital {
-        name: Name::new(alloc, b"y".as_slice())?,
-        capacity: 2,
-        groups: list_of(alloc, 1, 0, false)?,
-    })?;
-    hospitals.push(DraftHospital {
-        name: Name::new(alloc, b"z".as_slice())?,
-        capacity: 1,
-        groups: third,
-    })?;
-    Ok(hospitals)
+    let x = hospital(alloc, b"x".as_slice(), 1, three(alloc, 1, 0, false)?)?;
+    let y = hospital(alloc, b"y".as_slice(), 2, two(alloc, 1, 0, false)?)?;
+    let z = hospital(alloc, b"z".as_slice(), 1, one(alloc, 0)?)?;
+    Ok(vec![in alloc; x, y, z]?)
 }
 
 // The instance of these lists, of six pairs.
@@ -170,16 +131,9 @@ fn two_residents(alloc: Global) -> Result<Vec<DraftResident>, NoMemory>
     ensures { IfOk result (λ residents. residents.items
         ≡ record { name = 97 ∷ []; groups = (1 ∷ []) ∷ (0 ∷ []) ∷ [] } ∷ record { name = 98 ∷ []; groups = (1 ∷ []) ∷ (0 ∷ []) ∷ [] } ∷ []) }
 {
-    let mut residents = Vec::new(alloc);
-    residents.push(DraftResident {
-        name: Name::new(alloc, b"a".as_slice())?,
-        groups: list_of(alloc, 1, 0, false)?,
-    })?;
-    residents.push(DraftResident {
-        name: Name::new(alloc, b"b".as_slice())?,
-        groups: list_of(alloc, 1, 0, false)?,
-    })?;
-    Ok(residents)
+    let a = resident(alloc, b"a".as_slice(), two(alloc, 1, 0, false)?)?;
+    let b = resident(alloc, b"b".as_slice(), two(alloc, 1, 0, false)?)?;
+    Ok(vec![in alloc; a, b]?)
 }
 
 // x with so many posts: (a b), y 1: a b
@@ -188,18 +142,9 @@ fn two_hospitals(alloc: Global, capacity: u32) -> Result<Vec<DraftHospital>, NoM
         ≡ record { name = 120 ∷ []; capacity = capacity; groups = (0 ∷ 1 ∷ []) ∷ [] }
         ∷ record { name = 121 ∷ []; capacity = 1; groups = (0 ∷ []) ∷ (1 ∷ []) ∷ [] } ∷ []) }
 {
-    let mut hospitals = Vec::new(alloc);
-    hospitals.push(DraftHospital {
-        name: Name::new(alloc, b"x".as_slice())?,
-        capacity,
-        groups: list_of(alloc, 0, 1, true)?,
-    })?;
-    hospitals.push(DraftHospital {
-        name: Name::new(alloc, b"y".as_slice())?,
-        capacity: 1,
-        groups: list_of(alloc, 0, 1, false)?,
-    })?;
-    Ok(hospitals)
+    let x = hospital(alloc, b"x".as_slice(), capacity, two(alloc, 0, 1, true)?)?;
+    let y = hospital(alloc, b"y".as_slice(), 1, two(alloc, 0, 1, false)?)?;
+    Ok(vec![in alloc; x, y]?)
 }
 
 // The terms of that instance.

@@ -1,8 +1,8 @@
-//! Worked texts, with ample memory.
+// Texts of instances and of pairs, with ample memory.
 ghost use Rattle.std.specs.Prelude.{◌≤◌, ◌==◌, count_by};
 
-use crate::{PairsKind, PairsRefusal, ReadKind, ReadRefusal, read_instance, read_pairs};
 use hrt_base::PairNo;
+use hrt_reader::{PairsKind, PairsRefusal, ReadKind, ReadRefusal, read_instance, read_pairs};
 use std::alloc::Global;
 use std::test::Fail;
 

@@ -1,6 +1,6 @@
-// Texts that were worked out by hand, with ample memory.
-use crate::{Formula, OpbRefusal, read_opb};
+// Texts of models that were worked out by hand, with ample memory.
 use hrt_base::{Lit, Term};
+use opb_text::{Formula, OpbRefusal, read_opb};
 use std::alloc::Global;
 use std::test::Fail;
 

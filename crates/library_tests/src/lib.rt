@@ -1,0 +1,7 @@
+//! Tests of libraries on instances that are built from lists.
+#![tactic(auto)]
+
+#[cfg(test)]
+mod drafts;
+#[cfg(test)]
+mod tables;

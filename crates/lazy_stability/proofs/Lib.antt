@@ -1,0 +1,4 @@
+mod Tabled
+mod Asked
+mod Written
+mod Blocking

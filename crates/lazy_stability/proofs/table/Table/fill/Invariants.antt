@@ -1,0 +1,8 @@
+use Rattle.std.proofs.Common.{◌-◌, filter}
+use Rattle.rank_tables.specs.Numbers.{numbers_to}
+use Rattle.lazy_stability.specs.Candidates.{point_of_trail}
+use Rattle.lazy_stability.specs.Table.{ArePosts}
+use Rattle.lazy_stability.proofs.table.Table.fill.Given as goal
+
+abbrev pub invariant-loop-p : goal.invariant-loop-p
+invariant-loop-p l = ArePosts l.inst (filter (point_of_trail l.engine.trail) (numbers_to (l.p - 1))) l.self.best.items l.self.worst.items l.self.free.items

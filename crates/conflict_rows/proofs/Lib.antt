@@ -11,6 +11,7 @@ pub mod CutEnds
 pub mod FinishedRows
 pub mod ClauseStep
 pub mod ClauseEnds
+pub mod LastClauses
 pub mod CutCode
 pub mod Tabled
 pub mod Proved

@@ -2,7 +2,7 @@
 ghost use Rattle.std.specs.Prelude.{◌≡◌, ◌<◌, ◌≤◌, not, length};
 ghost use Rattle.pb_rows.specs.Terms.{opposite_lit};
 ghost use Rattle.pb_rows.specs.Points.{IsCovered};
-ghost use Rattle.conflict_rows.specs.Marks.{marks_true, mark_of, set_before, set_now, set_up_to};
+ghost use Rattle.conflict_rows.specs.Marks.{marks_true, mark_of, set_before, set_now, set_of_level, set_up_to};
 
 use hrt_base::Lit;
 
@@ -64,4 +64,13 @@ pub fn is_true_at(marks: &[Mark], lit: Lit, level: u32) -> bool
 {
     let mark = mark_of(marks, lit.var);
     marks_true(mark, lit.neg) && mark.level <= level
+}
+
+/// Tells whether a literal became false at a level.
+pub fn is_false_of_level(marks: &[Mark], lit: Lit, level: u32) -> bool
+    requires { IsCovered (length marks.now) lit.var }
+    ensures { result ≡ set_of_level marks.now level (opposite_lit lit) }
+{
+    let mark = mark_of(marks, lit.var);
+    marks_true(mark, !lit.neg) && mark.level == level
 }

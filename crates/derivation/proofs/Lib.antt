@@ -18,3 +18,4 @@ pub mod NoneDeleted
 mod CutsTraced
 mod Loaded
 pub mod EndsTraced
+pub mod Writable

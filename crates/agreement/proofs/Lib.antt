@@ -1,0 +1,4 @@
+pub mod Numbers
+pub mod SameRows
+pub mod Growing
+pub mod Lines

@@ -1,0 +1,3 @@
+mod Sweeps
+mod Sorted
+pub mod Rows

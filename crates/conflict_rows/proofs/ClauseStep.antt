@@ -77,11 +77,11 @@ clause_sum [] h = refl
 clause_sum (t ∷ ts) h = omega (arith, h.0, clause_sum ts h.1)
 
 -- rising variables from 1 to n are at most n
-rising_length : (low n : ℕ) (ts : List Term) → IsRisingFrom low ts → Lits (λ l. IsCovered n l.var) ts → low ≤ n + 1 → low + length ts ≤ n + 1
+pub rising_length : (low n : ℕ) (ts : List Term) → IsRisingFrom low ts → Lits (λ l. IsCovered n l.var) ts → low ≤ n + 1 → low + length ts ≤ n + 1
 rising_length low n [] r h k = omega arith
 rising_length low n (t ∷ ts) r h k = let m = rising_length (t.lit.var + 1) n ts r.2 h.1 (omega (arith, h.0.last)) in omega (arith, r.0)
 
-from_one : (n : ℕ) (ts : List Term) → IsRisingFrom 0 ts → Lits (λ l. IsCovered n l.var) ts → IsRisingFrom 1 ts
+pub from_one : (n : ℕ) (ts : List Term) → IsRisingFrom 0 ts → Lits (λ l. IsCovered n l.var) ts → IsRisingFrom 1 ts
 from_one n [] r h = tt
 from_one n (t ∷ ts) r h = (h.0.first, r.1, r.2)
 

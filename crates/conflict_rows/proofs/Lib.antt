@@ -12,6 +12,7 @@ pub mod FinishedRows
 pub mod ClauseStep
 pub mod ClauseEnds
 pub mod LastClauses
+pub mod ShortClauses
 pub mod CutCode
 pub mod Tabled
 pub mod Proved

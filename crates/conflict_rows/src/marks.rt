@@ -31,6 +31,14 @@ fn marks_true(mark: Mark, neg: bool) -> bool
     mark.place > 0 && mark.neg == neg
 }
 
+/// The level in the mark of a variable.
+pub fn level_of(marks: &[Mark], var: u32) -> u32
+    requires { IsCovered (length marks.now) var }
+    ensures { result ≡ (mark_of marks.now var).level }
+{
+    mark_of(marks, var).level
+}
+
 /// Tells whether a literal is false.
 pub fn is_false(marks: &[Mark], lit: Lit) -> bool
     requires { IsCovered (length marks.now) lit.var }

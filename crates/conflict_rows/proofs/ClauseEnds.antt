@@ -13,7 +13,7 @@ use Rattle.pb_rows.specs.Points.{IsCovered}
 use Rattle.propagation.specs.Following.{IsOver}
 use Rattle.pb_rows.specs.Closure.{Literals, is_same_lit, nonfalse_sum}
 use Rattle.propagation.proofs.Sets.{lit_cases, lit_is, lit_itself}
-use Rattle.conflict_rows.specs.Trail.{IsGrounded, IsTrail, Placed, has, on, top_level, weight_of}
+use Rattle.conflict_rows.specs.Trail.{IsGrounded, IsTrail, Placed, at_level, has, on, top_level, weight_of}
 use Rattle.conflict_rows.specs.Ends.{AreReasonsOver, IsReasonOver}
 use Rattle.conflict_rows.specs.CutRows.{newest_level}
 use Rattle.conflict_rows.specs.ClauseRows.{conflict_clause, count_at, has_none, is_last, is_nonfalse, last_clause, resolve_along, resolve_at, resolved_by}
@@ -23,24 +23,25 @@ use Rattle.conflict_rows.proofs.Trails.{levels_below, on-tail, on-within, trail_
 use Rattle.conflict_rows.proofs.Weakened.{others, others_rising}
 use Rattle.conflict_rows.proofs.CutEnds.{lacks, step_of}
 use Rattle.conflict_rows.proofs.FinishedAt.{newest_is}
-use Rattle.conflict_rows.proofs.ClauseStep.{IsClauseRow, clause_of_ones, conflict_false, conflict_is, next_clause_row, ones_lits, others_lits, weight_one}
+use Rattle.conflict_rows.specs.Standing.{IsClauseRow}
+use Rattle.conflict_rows.proofs.ClauseStep.{clause_of_ones, conflict_false, conflict_is, next_clause_row, ones_lits, others_lits, weight_one}
 
 -- ---- how many literals became false at a level
 
-abbrev pub at_level : List Placed → ℕ → Literals
-at_level whole k = on (filter (λ e. e.level == k) whole)
+abbrev pub false_at : List Placed → ℕ → Literals
+false_at whole k = on (at_level k whole)
 
-at_level-sub : (whole : List Placed) (k : ℕ) (l : Lit) → at_level whole k l ≡ true → on whole l ≡ true
+at_level-sub : (whole : List Placed) (k : ℕ) (l : Lit) → false_at whole k l ≡ true → on whole l ≡ true
 at_level-sub [] k l h = h
 at_level-sub (e ∷ es) k l h = elim (cases_Bool (e.level == k)) [
-  | inl y ↦ elim (or_cases (is_same_lit l e.lit) (at_level es k l) (rw y at h)) [ inl a ↦ or_left _ _ a | inr a ↦ on-tail e es l (at_level-sub es k l a) ]
+  | inl y ↦ elim (or_cases (is_same_lit l e.lit) (false_at es k l) (rw y at h)) [ inl a ↦ or_left _ _ a | inr a ↦ on-tail e es l (at_level-sub es k l a) ]
   | inr y ↦ on-tail e es l (at_level-sub es k l (rw y at h))
 ]
 
-sub_of : (whole : List Placed) (k : ℕ) (l : Lit) → on whole l ≡ false → at_level whole k l ≡ false
+sub_of : (whole : List Placed) (k : ℕ) (l : Lit) → on whole l ≡ false → false_at whole k l ≡ false
 sub_of whole k l h = false_from_ne_true _ (λ a. let yes = at_level-sub whole k l a in cc)
 
-none_at : (es : List Placed) (k : ℕ) (l : Lit) → AllByRecursion (λ f. f.level < k) es → at_level es k l ≡ false
+none_at : (es : List Placed) (k : ℕ) (l : Lit) → AllByRecursion (λ f. f.level < k) es → false_at es k l ≡ false
 none_at [] k l h = refl
 none_at (f ∷ fs) k l h = let other : (f.level == k) ≡ false = ne_eqb f.level k (λ e. omega (arith, h.0, e)) in rw other (none_at fs k l h.1)
 
@@ -49,7 +50,7 @@ lower [] top k l h = tt
 lower (f ∷ fs) top k l h = (omega (arith, h.0), lower fs top k l h.1)
 
 -- of what was there when a literal was decided, that literal alone stands at its level
-decided_level : (newer : List Placed) (e : Placed) (es : List Placed) (l : Lit) → IsTrail (newer ++ e ∷ es) → e.level ≡ top_level es + 1 → on (e ∷ es) l ≡ true → at_level (newer ++ e ∷ es) e.level l ≡ is_same_lit l e.lit
+decided_level : (newer : List Placed) (e : Placed) (es : List Placed) (l : Lit) → IsTrail (newer ++ e ∷ es) → e.level ≡ top_level es + 1 → on (e ∷ es) l ≡ true → false_at (newer ++ e ∷ es) e.level l ≡ is_same_lit l e.lit
 decided_level [] e es l t o h =
     let here : (e.level == e.level) ≡ true = eq-eqb e.level e.level refl in
     rw here (or_false (is_same_lit l e.lit) (none_at es e.level l (lower es (top_level es) e.level (omega arith) (levels_below es t.1))))
@@ -100,8 +101,8 @@ module _ (n : ℕ) (newer : List Placed) (e : Placed) (es : List Placed) (c : Pl
 
   one_there : count_at (newer ++ e ∷ es) e.level c ≡ 1
   one_there =
-      count_weight (λ u. at_level (newer ++ e ∷ es) e.level (opposite_lit u.lit)) (opposite_lit e.lit) c.terms row.clause.ones
-      (each (λ u. on (e ∷ es) (opposite_lit u.lit) ≡ true) (λ u. at_level (newer ++ e ∷ es) e.level (opposite_lit u.lit) ≡ is_same_lit (opposite_lit e.lit) u.lit)
+      count_weight (λ u. false_at (newer ++ e ∷ es) e.level (opposite_lit u.lit)) (opposite_lit e.lit) c.terms row.clause.ones
+      (each (λ u. on (e ∷ es) (opposite_lit u.lit) ≡ true) (λ u. false_at (newer ++ e ∷ es) e.level (opposite_lit u.lit) ≡ is_same_lit (opposite_lit e.lit) u.lit)
       (λ u h. decided_level newer e es (opposite_lit u.lit) trail opens h ∙ flip u.lit e.lit) c.terms row.older)
       ∙ weight_one (opposite_lit e.lit) 0 c.terms row.clause.rising row.clause.ones (has_true (opposite_lit e.lit) c.terms here)
 
@@ -124,7 +125,7 @@ pub data ClauseState (n : ℕ) (whole rest : List Placed) (c : PlainRow) : Type 
 at_now : (n : ℕ) (now before : Literals) (c : PlainRow) → IsClauseRow n now before c → IsClauseRow n now now c
 at_now n now before c r = record { clause = r.clause; false_now = r.false_now; older = r.false_now; over = r.over }
 
-passed_over : (n : ℕ) (now : Literals) (e : Placed) (es : List Placed) (c : PlainRow) → IsClauseRow n now (on (e ∷ es)) c → has (opposite_lit e.lit) c.terms ≡ false → IsClauseRow n now (on es) c
+pub passed_over : (n : ℕ) (now : Literals) (e : Placed) (es : List Placed) (c : PlainRow) → IsClauseRow n now (on (e ∷ es)) c → has (opposite_lit e.lit) c.terms ≡ false → IsClauseRow n now (on es) c
 passed_over n now e es c r h =
     let none : weight_of (opposite_lit e.lit) c.terms ≡ 0 = omega (arith, ltb-false 0 (weight_of (opposite_lit e.lit) c.terms) h) in
     record {
@@ -183,7 +184,7 @@ at_end n whole c (More row) =
     let none : has_none c.terms ≡ true = no_terms c.terms row.older in
     record { row = at_now n (on whole) (on []) c row; last = rw none refl }
 
-conflict_row : (n : ℕ) (whole : List Placed) (c : PlainRow) → IsWellFormedRow c → Lits (λ l. IsCovered n l.var) c.terms → nonfalse_sum (on whole) c.terms < c.degree → IsClauseRow n (on whole) (on whole) (conflict_clause whole c)
+pub conflict_row : (n : ℕ) (whole : List Placed) (c : PlainRow) → IsWellFormedRow c → Lits (λ l. IsCovered n l.var) c.terms → nonfalse_sum (on whole) c.terms < c.degree → IsClauseRow n (on whole) (on whole) (conflict_clause whole c)
 conflict_row n whole c m o f =
     let now : Literals = on whole in
     subst (IsClauseRow n now now) (sym (conflict_is now c m f)) (record {

@@ -18,6 +18,7 @@ use Rattle.propagation.proofs.Sets.{lit_cases, lit_is}
 use Rattle.conflict_rows.specs.Trail.{PropagatesLiteral, weight_of}
 use Rattle.conflict_rows.specs.Weakening.{weakened}
 use Rattle.conflict_rows.specs.ClauseRows.{as_clause, is_nonfalse, is_other}
+use Rattle.conflict_rows.specs.Standing.{IsClause, IsClauseRow}
 use Rattle.conflict_rows.proofs.Literals.{Each, IsOnly, each, each_of, each₂, only_term, rising_weights, weight_below, weight_here, weight_there}
 use Rattle.conflict_rows.proofs.OpenSums.{IsConsistent}
 use Rattle.conflict_rows.proofs.Weakened.{others, others_each, others_open, others_rising, others_sum, others_weight, weakened_is, weight_where}
@@ -49,12 +50,6 @@ clause_is ts d p n =
 
 -- ---- what a clause is
 
--- coefficients 1, and degree 1
-pub record IsClause (c : PlainRow) : Type 0 where
-  pub rising : IsRisingFrom 0 c.terms
-  pub ones : Each (λ u. positive_part u.coef ≡ 1) c.terms
-  pub degree : c.degree ≡ 1
-
 ones_rising : (low : ℕ) (ts : List Term) → IsRisingFrom low ts → IsRisingFrom low (ones ts)
 ones_rising low [] r = tt
 ones_rising low (t ∷ ts) r = (r.0, omega arith, ones_rising (t.lit.var + 1) ts r.2)
@@ -82,11 +77,11 @@ clause_sum [] h = refl
 clause_sum (t ∷ ts) h = omega (arith, h.0, clause_sum ts h.1)
 
 -- rising variables from 1 to n are at most n
-rising_length : (low n : ℕ) (ts : List Term) → IsRisingFrom low ts → Lits (λ l. IsCovered n l.var) ts → low ≤ n + 1 → low + length ts ≤ n + 1
+pub rising_length : (low n : ℕ) (ts : List Term) → IsRisingFrom low ts → Lits (λ l. IsCovered n l.var) ts → low ≤ n + 1 → low + length ts ≤ n + 1
 rising_length low n [] r h k = omega arith
 rising_length low n (t ∷ ts) r h k = let m = rising_length (t.lit.var + 1) n ts r.2 h.1 (omega (arith, h.0.last)) in omega (arith, r.0)
 
-from_one : (n : ℕ) (ts : List Term) → IsRisingFrom 0 ts → Lits (λ l. IsCovered n l.var) ts → IsRisingFrom 1 ts
+pub from_one : (n : ℕ) (ts : List Term) → IsRisingFrom 0 ts → Lits (λ l. IsCovered n l.var) ts → IsRisingFrom 1 ts
 from_one n [] r h = tt
 from_one n (t ∷ ts) r h = (h.0.first, r.1, r.2)
 
@@ -218,13 +213,6 @@ sum_one p l (u ∷ us) t h = elim h.0 [
 ]
 
 -- ---- the next clause
-
--- A clause whose literals are all false now, and were so when the literals of a set were there; its variables are from 1 to n.
-pub record IsClauseRow (n : ℕ) (now before : Literals) (c : PlainRow) : Type 0 where
-  pub clause : IsClause c
-  pub false_now : Lits (λ l. now (opposite_lit l) ≡ true) c.terms
-  pub older : Lits (λ l. before (opposite_lit l) ≡ true) c.terms
-  pub over : Lits (λ l. IsCovered n l.var) c.terms
 
 pub weight_one : (l : Lit) (low : ℕ) (ts : List Term) → IsRisingFrom low ts → Each (λ u. positive_part u.coef ≡ 1) ts → 0 < weight_of l ts → weight_of l ts ≡ 1
 weight_one l low [] r o h = absurd (omega arith)

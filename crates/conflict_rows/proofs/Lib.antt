@@ -11,6 +11,8 @@ pub mod CutEnds
 pub mod FinishedRows
 pub mod ClauseStep
 pub mod ClauseEnds
+pub mod LastClauses
+pub mod ShortClauses
 pub mod CutCode
 pub mod Tabled
 pub mod Proved

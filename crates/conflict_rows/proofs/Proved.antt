@@ -23,7 +23,7 @@ use Rattle.conflict_rows.proofs.CutEnds.{Ends, cut_ends}
 use Rattle.conflict_rows.proofs.FinishedAt.{least_none, propagates_some-from}
 use Rattle.conflict_rows.proofs.FinishedRows.{Newest, finished_asserts, newest, newest_free}
 use Rattle.conflict_rows.proofs.ClauseStep.{clause_normal, clause_sum_within, weight_one}
-use Rattle.conflict_rows.proofs.ClauseEnds.{IsLastClause, at_level, clauses_end}
+use Rattle.conflict_rows.proofs.ClauseEnds.{IsLastClause, false_at, clauses_end}
 
 -- ---- cut rows
 
@@ -56,17 +56,17 @@ each_within (e ∷ es) c t k n = elim (cases_Bool (has (opposite_lit e.lit) c.te
 up_to-more : (j : ℕ) (f : Placed) (fs : List Placed) (l : Lit) → on (up_to j fs) l ≡ true → on (up_to j (f ∷ fs)) l ≡ true
 up_to-more j f fs l h = elim (cases_Bool (nat_le f.level j)) [ inl y ↦ rw y (or_right _ _ h) | inr y ↦ rw y h ]
 
-at-more : (k : ℕ) (f : Placed) (fs : List Placed) (l : Lit) → at_level fs k l ≡ true → at_level (f ∷ fs) k l ≡ true
+at-more : (k : ℕ) (f : Placed) (fs : List Placed) (l : Lit) → false_at fs k l ≡ true → false_at (f ∷ fs) k l ≡ true
 at-more k f fs l h = elim (cases_Bool (f.level == k)) [ inl y ↦ rw y (or_right _ _ h) | inr y ↦ rw y h ]
 
 up_to-here : (j : ℕ) (f : Placed) (fs : List Placed) (l : Lit) → f.level ≤ j → is_same_lit l f.lit ≡ true → on (up_to j (f ∷ fs)) l ≡ true
 up_to-here j f fs l h s = let y : nat_le f.level j ≡ true = le-leb f.level j h in rw y (or_left _ _ s)
 
-at-here : (k : ℕ) (f : Placed) (fs : List Placed) (l : Lit) → f.level ≡ k → is_same_lit l f.lit ≡ true → at_level (f ∷ fs) k l ≡ true
+at-here : (k : ℕ) (f : Placed) (fs : List Placed) (l : Lit) → f.level ≡ k → is_same_lit l f.lit ≡ true → false_at (f ∷ fs) k l ≡ true
 at-here k f fs l h s = let y : (f.level == k) ≡ true = eq-eqb f.level k h in rw y (or_left _ _ s)
 
 split : (c : PlainRow) (j : ℕ) (l : Lit) (es : List Placed) → AllByRecursion (λ f. has (opposite_lit f.lit) c.terms ≡ true → f.level ≤ suc j) es → has (opposite_lit l) c.terms ≡ true → on es l ≡ true →
-    (on (up_to j es) l ≡ true) ⊎ (at_level es (suc j) l ≡ true)
+    (on (up_to j es) l ≡ true) ⊎ (false_at es (suc j) l ≡ true)
 split c j l [] a h o = absurd (cc)
 split c j l (f ∷ fs) a h o = elim (or_cases (is_same_lit l f.lit) (on fs l) o) [
   | inl s ↦
@@ -107,9 +107,9 @@ module _ (n : ℕ) (whole : List Placed) (c : PlainRow) (trail : IsTrail whole) 
       let terms = stand c.terms (rising_weights 0 c.terms end.row.clause.rising) in
       let bound : AllByRecursion (λ f. has (opposite_lit f.lit) c.terms ≡ true → f.level ≤ suc j) whole =
       each_within whole c trail (suc j) k in
-      let parts = each₂ (λ u. has u.lit c.terms ≡ true) (λ u. on whole (opposite_lit u.lit) ≡ true) (λ u. (on (up_to j whole) (opposite_lit u.lit) ≡ true) ⊎ (at_level whole (suc j) (opposite_lit u.lit) ≡ true))
+      let parts = each₂ (λ u. has u.lit c.terms ≡ true) (λ u. on whole (opposite_lit u.lit) ≡ true) (λ u. (on (up_to j whole) (opposite_lit u.lit) ≡ true) ⊎ (false_at whole (suc j) (opposite_lit u.lit) ≡ true))
       (λ u h o. split c j (opposite_lit u.lit) whole bound (subst (λ (l : Lit). has l c.terms ≡ true) (sym (opposite-opposite u.lit)) h) o) c.terms terms end.row.false_now in
-      let most = open_count (on (up_to j whole)) (at_level whole (suc j)) c.terms end.row.clause.ones parts in
+      let most = open_count (on (up_to j whole)) (false_at whole (suc j)) c.terms end.row.clause.ones parts in
       let there : count_at whole (suc j) c ≡ 1 = subst (λ (i : ℕ). count_at whole i c ≡ 1) k one in
       omega (arith, most, there)
 

@@ -1,11 +1,11 @@
 -- Clauses: from a falsified row, one resolution after another, newest literal first.
-use Rattle.std.specs.Prelude.{◌==◌, ℕ, Bool, true, false, nat_lt, not, ◌&&◌, ◌||◌, if◌then◌else◌, List, [], ◌∷◌, filter, count_by, Option, Some, None}
+use Rattle.std.specs.Prelude.{◌==◌, ℕ, Bool, true, false, nat_lt, not, ◌&&◌, ◌||◌, if◌then◌else◌, List, [], ◌∷◌, count_by, Option, Some, None}
 use Rattle.hrt_base.specs.declared.literal.Lit.{Lit}
 use Rattle.hrt_base.specs.declared.literal.Term.{Term}
 use Rattle.pb_rows.specs.Terms.{PlainRow, opposite_lit}
 use Rattle.pb_rows.specs.Rows.{add, divide, saturate}
 use Rattle.pb_rows.specs.Closure.{Literals}
-use Rattle.conflict_rows.specs.Trail.{Placed, has, on}
+use Rattle.conflict_rows.specs.Trail.{Placed, at_level, has, on}
 use Rattle.conflict_rows.specs.Weakening.{weakened}
 use Rattle.conflict_rows.specs.CutRows.{newest_level}
 
@@ -35,16 +35,20 @@ reason_clause before t r = as_clause (weakened (is_other (on before) t) r)
 
 -- how many literals of the row became false at the level
 abbrev pub count_at : List Placed → ℕ → PlainRow → ℕ
-count_at whole level r = count_by (λ u. on (filter (λ e. e.level == level) whole) (opposite_lit u.lit)) r.terms
+count_at whole level r = count_by (λ u. on (at_level level whole) (opposite_lit u.lit)) r.terms
 
 -- whether the list has no term
 abbrev pub has_none : List Term → Bool
 has_none [] = true
 has_none (t ∷ ts) = false
 
+-- whether the level is above 0, and just one literal of the row became false at it
+abbrev pub has_one_at : List Placed → ℕ → PlainRow → Bool
+has_one_at whole level r = nat_lt 0 level && count_at whole level r == 1
+
 -- whether the clause is the last: just one of its literals became false at its newest level, which is above 0, or it is empty
 abbrev pub is_last : List Placed → PlainRow → Bool
-is_last whole r = has_none r.terms || (nat_lt 0 (newest_level whole r) && count_at whole (newest_level whole r) r == 1)
+is_last whole r = has_none r.terms || has_one_at whole (newest_level whole r) r
 
 -- the clause after the step of a literal with this reason; a decided literal has no step
 abbrev pub resolved_by : List Placed → Lit → Option PlainRow → PlainRow → PlainRow

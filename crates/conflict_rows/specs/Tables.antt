@@ -5,19 +5,20 @@ use Rattle.pb_rows.specs.Terms.{PlainRow}
 use Rattle.conflict_rows.specs.declared.marks.Mark.{Mark}
 use Rattle.conflict_rows.specs.declared.cutting.Cut.{Cut}
 use Rattle.conflict_rows.specs.declared.cutting.Cut.TheVariants.{Next, Passed}
-use Rattle.conflict_rows.specs.Trail.{Placed, on, up_to}
+use Rattle.conflict_rows.specs.Trail.{Placed, at_level, on, up_to}
 use Rattle.conflict_rows.specs.CutRows as rows
 use Rattle.conflict_rows.specs.CutRows.{Cutting, cut_by, judged}
 use Rattle.conflict_rows.specs.ClauseRows.{conflict_clause, is_nonfalse, is_other, reason_clause}
 use Rattle.conflict_rows.specs.Cuts.{CutsTo}
 use Rattle.conflict_rows.specs.Steps.{IsClauseOf}
-use Rattle.conflict_rows.specs.Marks.{set_before, set_now, set_up_to}
+use Rattle.conflict_rows.specs.Marks.{set_before, set_now, set_of_level, set_up_to}
 
--- it makes true what the trail does, at once, at the first places, and up to each level
+-- it makes true what the trail does, at once, at the first places, up to each level, and at each level
 pub record AreMarks (marks : List Mark) (whole : List Placed) : Type 0 where
   pub now : (l : Lit) → set_now marks l ≡ on whole l
   pub before : (newer rest : List Placed) → newer ++ rest ≡ whole → (l : Lit) → set_before marks (length rest) l ≡ on rest l
   pub levels : (k : ℕ) (l : Lit) → set_up_to marks k l ≡ on (up_to k whole) l
+  pub of_level : (k : ℕ) (l : Lit) → set_of_level marks k l ≡ on (at_level k whole) l
 
 -- where the sequence stands after a cut
 abbrev pub after_cut : List Placed → Cut → Cutting

@@ -1,5 +1,5 @@
 -- Trails: the literals that are true, newest first, each with its level and the row that made it true, if one did.
-use Rattle.std.specs.Prelude.{◌≡◌, ◌<◌, ◌+◌, ℕ, Bool, nat_le, nat_lt, not, ◌&&◌, ◌||◌, if◌then◌else◌, IsFalse, List, [], ◌∷◌, map, filter, Option, Some, None}
+use Rattle.std.specs.Prelude.{◌≡◌, ◌<◌, ◌+◌, ◌==◌, ℕ, Bool, nat_le, nat_lt, not, ◌&&◌, ◌||◌, if◌then◌else◌, IsFalse, List, [], ◌∷◌, map, filter, Option, Some, None}
 use Rattle.std.specs.List.{list_any}
 use Rattle.hrt_base.specs.declared.literal.Lit.{Lit}
 use Rattle.hrt_base.specs.declared.literal.Term.{Term}
@@ -20,6 +20,10 @@ on trail = among (map (λ e. e.lit) trail)
 -- the trail up to a level
 abbrev pub up_to : ℕ → List Placed → List Placed
 up_to level trail = filter (λ e. nat_le e.level level) trail
+
+-- the trail's literals of a level
+abbrev pub at_level : ℕ → List Placed → List Placed
+at_level level trail = filter (λ e. e.level == level) trail
 
 -- the level of the newest literal, 0 where there is none
 abbrev pub top_level : List Placed → ℕ

@@ -1,5 +1,5 @@
 // At which levels of a trail a row propagates a literal.
-ghost use Rattle.std.specs.Prelude.{◌≡◌, ◌<◌, ◌≤◌, ◌+◌, ◌^◌, ◌&&◌, not, nat_lt, length};
+ghost use Rattle.std.specs.Prelude.{◌≡◌, ◌<◌, ◌≤◌, ◌+◌, ◌^◌, ◌&&◌, not, nat_lt, length, false, IfNone, IfSome};
 ghost use Rattle.std.specs.List.{All, list_any};
 ghost use Rattle.pb_rows.specs.Terms.{IsPositive, coef_sum, opposite_lit, positive_part};
 ghost use Rattle.pb_rows.specs.Points.{IsCovered};
@@ -7,11 +7,12 @@ ghost use Rattle.pb_rows.specs.Closure.{nonfalse_share, nonfalse_sum};
 ghost use Rattle.propagation.specs.Following.{IsOver};
 ghost use Rattle.conflict_rows.specs.Trail.{propagates_some};
 ghost use Rattle.conflict_rows.specs.CutRows.{least_below};
+ghost use Rattle.conflict_rows.specs.Standing.{IsAsserted};
 ghost use Rattle.conflict_rows.specs.Marks.{set_up_to};
 
 use crate::coefficients::coefficient;
 use crate::marks::{Mark, is_false_at, is_true_at};
-use hrt_base::Term;
+use hrt_base::{Lit, Term};
 use pb_rows::Row;
 
 /// The coefficient of a term that isn't false up to a level, or 0.
@@ -78,6 +79,23 @@ pub fn propagates_some(row: &Row, marks: &[Mark], level: u32) -> bool
     let terms = row.terms();
     let sum = open_total(terms, marks, level);
     propagates_any(terms, marks, level, sum, row.degree() as u128)
+}
+
+/// The first literal of a row that it propagates under the trail up to a level, if there is one, in time linear in the terms.
+pub fn asserted(row: &Row, marks: &[Mark], level: u32) -> Option<Lit>
+    requires { IsOver (length marks.now) row.now }
+    ensures some { IfSome result (IsAsserted (set_up_to marks.now level) row.now) }
+    ensures none { IfNone result (propagates_some (set_up_to marks.now level) row.now ≡ false) }
+{
+    let terms = row.terms();
+    let sum = open_total(terms, marks, level);
+    let degree = row.degree() as u128;
+    for k in 0..terms.len() {
+        if propagates(terms[k], marks, level, sum, degree) {
+            return Some(terms[k].lit);
+        }
+    }
+    None
 }
 
 /// The least level below another one at which a row propagates a literal. It looks at each level, each time at all terms, so

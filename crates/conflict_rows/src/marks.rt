@@ -2,7 +2,7 @@
 ghost use Rattle.std.specs.Prelude.{◌≡◌, ◌<◌, ◌≤◌, not, length};
 ghost use Rattle.pb_rows.specs.Terms.{opposite_lit};
 ghost use Rattle.pb_rows.specs.Points.{IsCovered};
-ghost use Rattle.conflict_rows.specs.Marks.{marks_true, mark_of, set_before, set_now, set_up_to};
+ghost use Rattle.conflict_rows.specs.Marks.{marks_true, mark_of, set_before, set_now, set_of_level, set_up_to};
 
 use hrt_base::Lit;
 
@@ -29,6 +29,14 @@ fn marks_true(mark: Mark, neg: bool) -> bool
     ensures { result ≡ marks_true mark neg }
 {
     mark.place > 0 && mark.neg == neg
+}
+
+/// The level in the mark of a variable.
+pub fn level_of(marks: &[Mark], var: u32) -> u32
+    requires { IsCovered (length marks.now) var }
+    ensures { result ≡ (mark_of marks.now var).level }
+{
+    mark_of(marks, var).level
 }
 
 /// Tells whether a literal is false.
@@ -64,4 +72,13 @@ pub fn is_true_at(marks: &[Mark], lit: Lit, level: u32) -> bool
 {
     let mark = mark_of(marks, lit.var);
     marks_true(mark, lit.neg) && mark.level <= level
+}
+
+/// Tells whether a literal became false at a level.
+pub fn is_false_of_level(marks: &[Mark], lit: Lit, level: u32) -> bool
+    requires { IsCovered (length marks.now) lit.var }
+    ensures { result ≡ set_of_level marks.now level (opposite_lit lit) }
+{
+    let mark = mark_of(marks, lit.var);
+    marks_true(mark, !lit.neg) && mark.level == level
 }

@@ -19,3 +19,4 @@ pub mod NoneDeleted
 mod CutsTraced
 mod Loaded
 pub mod EndsTraced
+pub mod Writable

@@ -1,17 +1,13 @@
 -- Rows that were made for a while are forgotten.
-use Rattle.std.proofs.Common.{◌≡◌, ℕ, zero, suc, ◌-◌, ◌*◌, ◌<◌, ◌≤◌, ◌^◌, Bool, true, false, not, ◌||◌, ◌==◌, List, [], ◌∷◌, ◌++◌, nat_le, if◌then◌else◌, length, map, cond, refl, sym, ap, ◌∙◌, subst, inl, inr, arith}
-use Rattle.std.specs.Prelude.{Option, Some, Result, Ok, Err, IsOk, is_ok, codes, decimal}
-use Rattle.std.specs.List.{list_all}
-use Rattle.std.proofs.lemmas.Bool.{and_from, and_parts, eq-eqb, eqb-true, false_from_ne_true, le-leb, not-true, or_cases, or_parts, or_left, or_right, true≢false}
-use Rattle.std.proofs.lemmas.Fmt.{length-decimal-le}
-use Rattle.std.proofs.lemmas.List.{length-append}
+use Rattle.std.proofs.Common.{◌≡◌, ℕ, zero, suc, ◌<◌, ◌≤◌, ◌^◌, Bool, true, false, not, ◌||◌, ◌==◌, List, [], ◌∷◌, ◌++◌, if◌then◌else◌, length, cond, refl, sym, ap, ◌∙◌, subst, inl, inr, arith}
+use Rattle.std.specs.Prelude.{Option, Some, Result, Ok, Err, IsOk, is_ok}
+use Rattle.std.proofs.lemmas.Bool.{and_parts, eq-eqb, eqb-true, false_from_ne_true, not-true, or_cases, or_parts, or_left, or_right, true≢false}
 use Rattle.hrt_base.specs.declared.numbered.RowNo.{RowNo}
 use Rattle.pb_rows.specs.Terms.{PlainRow}
 use Rattle.pb_rows.specs.Formula.{NumberedRow, is_numbered, row_of, without}
-use Rattle.row_text.specs.Tokens.{spaced}
 use Rattle.rank_tables.specs.Numbers.{is_distinct, is_in}
 use Rattle.proof_lines.specs.declared.line.Line.TheVariants.{Del}
-use Rattle.proof_lines.specs.Texts.{id_text, is_spellable_id, is_nonempty_and_all, line_text}
+use Rattle.proof_lines.specs.Texts.{line_text}
 use Rattle.proof_rules.specs.Refusals.{BadId, Refusal, and_then}
 use Rattle.proof_rules.specs.Held.{row_numbers}
 use Rattle.proof_rules.specs.States.{IsInOrder, State, deleted}
@@ -80,33 +76,6 @@ leaves (x ∷ ids) live d h =
           let here = left_of_one n x.0 live later.0 in
           (here.0, ap (λ (b : Bool). b || is_in n (row_numbers ids)) here.1 ∙ later.1);
     }
-
--- ---- the line
-
-ids_made : (ids : List RowNo) → ((n : ℕ) → is_in n (row_numbers ids) ≡ true → (1 ≤ n) × (n < 10 ^ 18)) → list_all is_spellable_id ids ≡ true
-ids_made [] h = refl
-ids_made (x ∷ ids) h =
-    let here = h x.0 (or_left (x.0 == x.0) (is_in x.0 (row_numbers ids)) (eq-eqb x.0 x.0 refl)) in
-    and_from (is_spellable_id x) (list_all is_spellable_id ids) (and_from (nat_le 1 x.0) (nat_le x.0 (10 ^ 18 - 1)) (le-leb 1 x.0 here.0) (le-leb x.0 (10 ^ 18 - 1) (omega (arith, here.1))))
-    (ids_made ids (λ n i. h n (or_right (x.0 == n) (is_in n (row_numbers ids)) i)))
-
-ids_short : (ids : List RowNo) → ((n : ℕ) → is_in n (row_numbers ids) ≡ true → (1 ≤ n) × (n < 10 ^ 18)) → length (spaced (map id_text ids)) ≤ 19 * length ids
-ids_short [] h = omega arith
-ids_short (x ∷ ids) h =
-    let here = h x.0 (or_left (x.0 == x.0) (is_in x.0 (row_numbers ids)) (eq-eqb x.0 x.0 refl)) in
-    let rest = ids_short ids (λ n i. h n (or_right (x.0 == n) (is_in n (row_numbers ids)) i)) in
-    omega (arith, rest, length-append (decimal x.0) (spaced (map id_text ids)), length-decimal-le 18 x.0 (omega arith) here.1 (omega (arith, here.1)))
-
-some_made : (ids : List RowNo) → 0 < length ids → list_all is_spellable_id ids ≡ true → is_nonempty_and_all is_spellable_id ids ≡ true
-some_made [] l h = absurd (omega arith)
-some_made (x ∷ ids) l h = h
-
-pub del_writable : (ids : List RowNo) → 0 < length ids → length ids ≤ 100000 → ((n : ℕ) → is_in n (row_numbers ids) ≡ true → (1 ≤ n) × (n < 10 ^ 18)) → IsWritable (Del ids)
-del_writable ids some few h = record {
-  made = some_made ids some (ids_made ids h);
-  small = refl;
-  short = omega (arith, ids_short ids h, few, length-append (codes "del" ++ 32 ∷ (codes "id" ++ spaced (map id_text ids))) (10 ∷ []));
-}
 
 -- ---- the call
 

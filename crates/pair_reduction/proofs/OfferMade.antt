@@ -34,7 +34,8 @@ use Rattle.derivation.specs.Ready.{IsReady}
 use Rattle.derivation.specs.Steps.{IsWritable, Takes, with_new_row}
 use Rattle.pair_reduction.specs.Offers.{before_steps, is_before, offer_row, offer_steps, row_steps}
 use Rattle.pair_reduction.proofs.OfferRow.{offer_made}
-use Rattle.pair_reduction.proofs.Writable.{AreGood, each_good, good_append, good_writable, live_good}
+use Rattle.derivation.proofs.Writable.{AreGood, good_append, good_writable, live_good}
+use Rattle.pair_reduction.proofs.Writable.{each_good}
 
 -- ---- live rows of the model
 

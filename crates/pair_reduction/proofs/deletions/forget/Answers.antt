@@ -1,6 +1,7 @@
 use Rattle.std.proofs.Common.{length, refl, sym, ◌∙◌}
 use Rattle.std.proofs.lemmas.Bool.{eqb-true}
-use Rattle.pair_reduction.proofs.Forgets.{del_writable, forget_asks, forgets_all, forgets_none, numbers_within, some_there}
+use Rattle.derivation.proofs.Writable.{del_writable}
+use Rattle.pair_reduction.proofs.Forgets.{forget_asks, forgets_all, forgets_none, numbers_within, some_there}
 use Rattle.pair_reduction.proofs.deletions.forget.Goals as goal
 
 pub returns-then-is_empty-clause-forgets : goal.returns-then-is_empty-clause-forgets

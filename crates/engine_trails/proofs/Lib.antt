@@ -1,0 +1,4 @@
+pub mod Histories
+pub mod Entries
+pub mod Tables
+pub mod Passing

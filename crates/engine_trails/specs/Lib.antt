@@ -1,0 +1,3 @@
+pub mod History
+pub mod Histories
+pub mod Places

@@ -12,8 +12,6 @@ mod solution;
 mod stage;
 mod state;
 mod steps;
-#[cfg(test)]
-mod tests;
 
 pub use checker::Checker;
 pub use refusal::ProofRefusal;

@@ -1,7 +1,7 @@
 // Proofs in pieces.
 
-use crate::ProofRefusal;
-use crate::tests::verdicts::{FREE, MOST_BYTES, bounds, judged};
+use crate::verdicts::{FREE, MOST_BYTES, bounds, judged};
+use proof_checker::ProofRefusal;
 
 #[test]
 fn the_worked_proof_in_pieces(rt: HostRuntime) {

@@ -1,7 +1,7 @@
 // Lines that claim a row, log a solution or delete rows.
 
-use crate::ProofRefusal;
-use crate::tests::verdicts::refusal;
+use crate::verdicts::refusal;
+use proof_checker::ProofRefusal;
 
 #[test]
 fn rup_lines(rt: HostRuntime) {

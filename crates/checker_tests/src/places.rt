@@ -1,7 +1,7 @@
 // Lines in their places, and the last bytes.
 
-use crate::ProofRefusal;
-use crate::tests::verdicts::{FREE, MOST_BYTES, judged};
+use crate::verdicts::{FREE, MOST_BYTES, judged};
+use proof_checker::ProofRefusal;
 use std::alloc::Global;
 
 #[test]

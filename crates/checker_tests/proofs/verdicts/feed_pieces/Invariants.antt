@@ -1,7 +1,7 @@
 use Rattle.std.proofs.Common.{◌+◌, ◌≤◌, IsTrue, length}
 use Rattle.proof_checker.specs.Limits.{most_proof_bytes}
 use Rattle.proof_checker.specs.Standing.{is_open}
-use Rattle.proof_checker.proofs.tests.verdicts.feed_pieces.Given as goal
+use Rattle.checker_tests.proofs.verdicts.feed_pieces.Given as goal
 
 abbrev pub invariant-loop-left : goal.invariant-loop-left
 invariant-loop-left l = record {

@@ -1,7 +1,7 @@
 // What a proof concludes.
 
-use crate::ProofRefusal;
-use crate::tests::verdicts::{BOUNDED, CLASHING, FREE, bounds, concluded};
+use crate::verdicts::{BOUNDED, CLASHING, FREE, bounds, concluded};
+use proof_checker::ProofRefusal;
 use proof_lines::Claim;
 
 #[test]

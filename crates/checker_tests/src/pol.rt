@@ -1,7 +1,7 @@
 // Lines that make a row by steps.
 
-use crate::ProofRefusal;
-use crate::tests::verdicts::refusal;
+use crate::verdicts::refusal;
+use proof_checker::ProofRefusal;
 
 #[test]
 fn the_spelling_of_pol_lines(rt: HostRuntime) {

@@ -4,9 +4,9 @@ ghost use Rattle.opb_text.specs.Limits.{IsWithinLimits};
 ghost use Rattle.proof_checker.specs.Limits.{most_proof_bytes};
 ghost use Rattle.proof_checker.specs.Standing.{is_open};
 
-use crate::{Checker, ProofRefusal};
 use hrt_base::NoMemory;
 use opb_text::{Formula, OpbRefusal, read_opb};
+use proof_checker::{Checker, ProofRefusal};
 use proof_lines::Claim;
 use std::alloc::Global;
 

@@ -1,7 +1,7 @@
 // What stands in a line, and in which order it is looked at.
 
-use crate::ProofRefusal;
-use crate::tests::verdicts::refusal;
+use crate::verdicts::refusal;
+use proof_checker::ProofRefusal;
 
 #[test]
 fn the_order_inside_a_line(rt: HostRuntime) {

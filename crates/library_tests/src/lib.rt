@@ -4,4 +4,10 @@
 #[cfg(test)]
 mod drafts;
 #[cfg(test)]
+mod instances;
+#[cfg(test)]
+mod matchings;
+#[cfg(test)]
+mod models;
+#[cfg(test)]
 mod tables;

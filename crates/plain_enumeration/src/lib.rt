@@ -4,7 +4,5 @@
 
 mod largest;
 mod members;
-#[cfg(test)]
-mod tests;
 
 pub use largest::largest_stable;

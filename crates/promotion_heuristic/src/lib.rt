@@ -7,8 +7,6 @@ mod queues;
 mod rounds;
 mod standing;
 mod tenant;
-#[cfg(test)]
-mod tests;
 mod turning;
 
 pub use first::promote;

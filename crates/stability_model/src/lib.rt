@@ -7,8 +7,6 @@ mod buckets;
 mod making;
 mod model;
 mod terms;
-#[cfg(test)]
-mod tests;
 
 pub use model::Model;
 

@@ -1,6 +1,6 @@
 -- What a text tells after the lines of an analysis.
 use Rattle.std.proofs.Common.{◌≡◌, ℕ, ◌+◌, ◌<◌, ◌≤◌, ◌==◌, Bool, true, false, ◌||◌, List, [], ◌∷◌, ◌++◌, length, get_or, refl, sym, ap, ◌∙◌, subst, inl, inr, arith}
-use Rattle.std.specs.Prelude.{IsTrue, Option, Some, None, Result, Ok, Err}
+use Rattle.std.specs.Prelude.{IsTrue, Option, Some, Result, Ok, Err}
 use Rattle.std.specs.List.{All}
 use Rattle.std.proofs.lemmas.Bool.{cases_lt, eq-eqb, eqb-true, false_from_ne_true, or_cases}
 use Rattle.std.proofs.lemmas.List.Elements.{All-head, All-tail}
@@ -9,11 +9,9 @@ use Rattle.pb_rows.specs.Terms.{PlainRow}
 use Rattle.pb_rows.specs.Formula.{NumberedRow, is_numbered}
 use Rattle.rank_tables.specs.Instance.{Lists, pair_count}
 use Rattle.rank_tables.specs.Numbers.{is_in}
-use Rattle.stability_model.specs.Model.{formula, rows}
-use Rattle.proof_lines.specs.declared.line.Line.{Line}
+use Rattle.stability_model.specs.Model.{rows}
 use Rattle.proof_lines.specs.declared.line.Line.TheVariants.{Header, Count, Pol, Rup, Soli, Del, Output, Conclusion, End, Comment, Blank}
 use Rattle.proof_lines.specs.declared.line.PolStep.{PolStep}
-use Rattle.proof_lines.specs.declared.note.Note.{Note}
 use Rattle.proof_rules.specs.Refusals.{Refusal, and_then}
 use Rattle.proof_rules.specs.Pol.{pol_row}
 use Rattle.proof_rules.specs.States.{AreNumbered, State, deleted, with_row}
@@ -22,9 +20,8 @@ use Rattle.proof_rules.specs.Told.{Told}
 use Rattle.proof_rules.specs.Held.{Held, NoneIsDeleted, is_held}
 use Rattle.proof_rules.proofs.Held.{is_in-append}
 use Rattle.derivation.specs.Derived.{Derived}
-use Rattle.derivation.specs.Steps.{Takes}
 use Rattle.derivation.specs.Traces.{IsKnownStep, IsLawfulPol, Trace, most_between}
-use Rattle.derivation.specs.Pieces.{ALine, ANote, Adds, AddsCuts, CutsStayTraced, IsCutPiece, IsLawfulPiece, Piece, StandsTraced, TakesLine, TakesPiece, traced}
+use Rattle.derivation.specs.Pieces.{ALine, ANote, Adds, CutsStayTraced, IsCutPiece, IsLawfulPiece, Piece, StandsTraced, TakesLine, TakesPiece, traced}
 use Rattle.derivation.proofs.Forgotten.{MayGo, del_leads, none_deleted-left}
 use Rattle.derivation.proofs.InOrder.{end_above}
 use Rattle.derivation.proofs.NoneDeleted.{model_below}

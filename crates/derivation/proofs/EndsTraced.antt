@@ -1,5 +1,5 @@
 -- What a text tells at the start, and that its lines keep the law to the end.
-use Rattle.std.proofs.Common.{◌≡◌, ℕ, List, [], ◌∷◌, ◌++◌, length, refl, sym, ap, ap₂, ◌∙◌, subst}
+use Rattle.std.proofs.Common.{◌≡◌, ℕ, List, [], ◌++◌, length, refl, sym, ap, ap₂, ◌∙◌, subst}
 use Rattle.std.specs.Prelude.{Option, Some, None}
 use Rattle.std.proofs.lemmas.List.{append_assoc}
 use Rattle.rank_tables.specs.Instance.{Lists}
@@ -13,11 +13,11 @@ use Rattle.proof_lines.specs.Notes.{note_in}
 use Rattle.proof_lines.specs.Texts.{line_text, spelling}
 use Rattle.proof_rules.specs.Claims.{Shows}
 use Rattle.proof_rules.specs.States.{State, first_state}
-use Rattle.proof_rules.specs.Valid.{Place, Start, Headed, Proving, Closing, Claimed, Done, Moves}
+use Rattle.proof_rules.specs.Valid.{Place, Start, Headed, Proving, Closing, Claimed, Done}
 use Rattle.proof_rules.specs.Texts.{Cut, cut}
-use Rattle.proof_rules.specs.Held.{Held, NoneIsDeleted, after_any_note, after_line, first_held}
-use Rattle.proof_rules.specs.Told.{Told, first_told, or_here, place_after, told_after}
-use Rattle.proof_rules.proofs.Told.{cut-line, tells-start}
+use Rattle.proof_rules.specs.Held.{NoneIsDeleted, after_any_note, after_line, first_held}
+use Rattle.proof_rules.specs.Told.{Told, first_told, place_after, told_after}
+use Rattle.proof_rules.proofs.Told.{cut-line}
 use Rattle.derivation.specs.Derived.{Derived, IsProofUpTo, StandsFor}
 use Rattle.derivation.specs.Steps.{IsWritable, concluded, end_lines, first_derived}
 use Rattle.derivation.specs.Traces.{IsLawfulAt, IsLawfulText, Trace, first_trace, trace_after, trace_of}

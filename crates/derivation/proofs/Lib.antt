@@ -12,7 +12,6 @@ pub mod ShortRows
 mod Asked
 pub mod Starts
 mod Counts
-mod WorkedCalls
 pub mod Forgotten
 pub mod Traced
 pub mod NoneDeleted

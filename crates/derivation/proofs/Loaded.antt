@@ -5,10 +5,9 @@ use Rattle.std.proofs.lemmas.Bool.{and_parts, eqb-true, leb-true, or_cases, true
 use Rattle.std.proofs.lemmas.List.{append-nil, append_assoc}
 use Rattle.std.proofs.lemmas.List.Elements.{All-contains}
 use Rattle.hrt_base.specs.declared.literal.Term.{Term}
-use Rattle.hrt_base.specs.declared.literal.Lit.{Lit}
-use Rattle.pb_rows.specs.Terms.{PlainRow, opposite_lit}
-use Rattle.pb_rows.specs.Closure.{IsSettled, Keeps}
-use Rattle.rank_tables.specs.Instance.{Lists, pair_count}
+use Rattle.pb_rows.specs.Terms.{opposite_lit}
+use Rattle.pb_rows.specs.Closure.{IsSettled}
+use Rattle.rank_tables.specs.Instance.{Lists}
 use Rattle.rank_tables.specs.Numbers.{is_in, numbers_to}
 use Rattle.rank_tables.specs.Tables.{IsPairNo}
 use Rattle.rank_tables.proofs.Numbers.{is_in-filter, is_in-numbers_to}
@@ -22,7 +21,6 @@ use Rattle.proof_lines.specs.Notes.{note_in}
 use Rattle.proof_rules.specs.Valid.{Place, Start, Headed, Proving, Closing, Claimed, Done}
 use Rattle.proof_rules.specs.Texts.{cut}
 use Rattle.proof_rules.specs.Held.{Held, after_any_note, after_line, after_note, is_held, keeping, row_numbers}
-use Rattle.proof_rules.specs.Notes.{Fresh}
 use Rattle.proof_rules.proofs.Held.{is_held-keeping, is_in-append}
 use Rattle.derivation.specs.Traces.{AreLawful, AreLoadedIn, FreshRowsAreOpen, HeldRowsAreLoaded, IsLawfulAt, Trace, first_trace, loaded_after, trace_after, trace_by}
 use Rattle.derivation.proofs.NotesOfLines.{note_comment}

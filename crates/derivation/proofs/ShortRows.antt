@@ -1,7 +1,6 @@
 -- The rows that a proof makes beside those of its model are short.
-use Rattle.std.proofs.Common.{◌≡◌, ℕ, zero, suc, ◌+◌, ◌^◌, ◌≤◌, true, List, [], length, filter, ℤ, pos, neg_ℤ, ◌-ℤ◌, sym, subst, zero-le, arith}
+use Rattle.std.proofs.Common.{◌≡◌, ℕ, zero, suc, ◌+◌, ◌≤◌, true, [], length, ℤ, pos, neg_ℤ, ◌-ℤ◌, sym, subst, zero-le, arith}
 use Rattle.std.specs.Int.RustNames.{unsigned_abs}
-use Rattle.std.specs.List.{All}
 use Rattle.std.proofs.lemmas.List.Elements.{All-map, All-nil, All-push}
 use Rattle.std.proofs.lemmas.List.Sums.{count_by-le-length, length-filter}
 use Rattle.hrt_base.specs.declared.literal.Term.{Term}

@@ -1,20 +1,18 @@
 -- What a derivation starts with.
-use Rattle.std.proofs.Common.{◌≡◌, ℕ, ◌+◌, ◌-◌, ◌<◌, ◌≤◌, ◌^◌, List, [], ◌∷◌, ◌++◌, length, take, map, refl, sym, ap, ◌∙◌, subst, add-one, arith, length-append}
+use Rattle.std.proofs.Common.{◌≡◌, ℕ, ◌+◌, ◌-◌, ◌<◌, ◌≤◌, ◌^◌, List, [], ◌∷◌, ◌++◌, length, take, refl, sym, ap, ◌∙◌, subst, add-one, arith, length-append}
 use Rattle.std.specs.Prelude.{None, Some, codes, slice_get, decimal}
 use Rattle.std.specs.List.{All}
 use Rattle.std.proofs.lemmas.Bool.{eq-eqb, le-leb}
 use Rattle.std.proofs.lemmas.Fmt.{length-decimal-le}
-use Rattle.std.proofs.lemmas.List.{length-map, length-take-le}
+use Rattle.std.proofs.lemmas.List.{length-take-le}
 use Rattle.std.proofs.lemmas.List.Elements.{All-cons, All-nil}
 use Rattle.std.proofs.lemmas.Option.{get_or_from_slice_get, slice_get_within}
 use Rattle.std.proofs.Math.Seq.{take-suc}
 use Rattle.pb_rows.specs.Terms.{PlainRow}
-use Rattle.pb_rows.specs.Rows.{in_normal_form}
 use Rattle.pb_rows.specs.Formula.{NumberedRow, numbered_from}
-use Rattle.rank_tables.specs.Instance.{Lists, pair_count}
+use Rattle.rank_tables.specs.Instance.{Lists}
 use Rattle.rank_tables.specs.Numbers.{numbers_to}
-use Rattle.rank_tables.proofs.Below.{length-numbers_to}
-use Rattle.stability_model.specs.Model.{formula, hospital_rows, pair_row, pair_row_no, resident_rows, rows, written_rows}
+use Rattle.stability_model.specs.Model.{formula, pair_row_no, rows}
 use Rattle.proof_lines.specs.declared.line.Line.TheVariants.{Header, Count}
 use Rattle.proof_rules.specs.States.{first_state}
 use Rattle.proof_rules.specs.Valid.{Headed, Moves, Proving}

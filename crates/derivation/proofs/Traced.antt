@@ -1,6 +1,6 @@
 -- What a text tells after one more line, and after several.
-use Rattle.std.proofs.Common.{◌≡◌, ℕ, ◌==◌, true, List, [], ◌∷◌, ◌++◌, refl, sym, ap, ap₂, ◌∙◌, subst}
-use Rattle.std.specs.Prelude.{Option, Some, None, Result, Ok, Err}
+use Rattle.std.proofs.Common.{◌≡◌, ℕ, true, List, [], ◌∷◌, ◌++◌, refl, sym, ap, ap₂, ◌∙◌, subst}
+use Rattle.std.specs.Prelude.{Option, Some, None, Result, Ok}
 use Rattle.std.proofs.lemmas.List.{append_assoc}
 use Rattle.pb_rows.specs.Formula.{Formula}
 use Rattle.rank_tables.specs.Instance.{Lists}
@@ -20,7 +20,7 @@ use Rattle.proof_rules.specs.Told.{Told, first_told, told_after, told_by}
 use Rattle.proof_rules.proofs.Pieces.{cut-whole}
 use Rattle.proof_rules.proofs.Told.{cut-line, is_one_line, told-reaches}
 use Rattle.derivation.specs.Derived.{Derived, IsProofUpTo, StandsFor, place_of}
-use Rattle.derivation.specs.Traces.{AreLawful, IsLawfulAt, IsLawfulLine, IsLawfulNote, IsLawfulText, Trace, first_trace, loaded_after, made_after, since_after, since_line, since_note, trace_after, trace_by, trace_of, units_after}
+use Rattle.derivation.specs.Traces.{AreLawful, IsLawfulAt, IsLawfulLine, IsLawfulNote, IsLawfulText, Trace, first_trace, loaded_after, made_after, since_after, trace_after, trace_by, trace_of, units_after}
 use Rattle.derivation.specs.Pieces.{ALine, ANote, AddsLawfully, IsLawfulPiece, Piece, StandsTraced, StaysTraced, TakesLine, TakesNote, TakesPiece, traced}
 use Rattle.derivation.proofs.Spelled.{line_is_one, line_reads, note_is_one, note_reads}
 use Rattle.derivation.proofs.NotesOfLines.{no_note, note_comment}

@@ -1,5 +1,5 @@
 -- Lines and notes that were added to a derivation one after another, and what they make of what its text tells.
-use Rattle.std.specs.Prelude.{◌≡◌, ◌≤◌, ◌<◌, ◌||◌, ℕ, ◌+◌, nat_le, IsTrue, List, [], ◌∷◌, ◌++◌, length, All, Option, Some, None}
+use Rattle.std.specs.Prelude.{◌≡◌, ◌≤◌, ◌<◌, ℕ, ◌+◌, IsTrue, List, [], ◌∷◌, ◌++◌, length, All, Some, None}
 use Rattle.hrt_base.specs.declared.numbered.RowNo.{RowNo}
 use Rattle.rank_tables.specs.Instance.{Lists}
 use Rattle.rank_tables.specs.Numbers.{is_in}
@@ -8,7 +8,7 @@ use Rattle.proof_lines.specs.declared.line.Claim.{Claim}
 use Rattle.proof_lines.specs.declared.line.Line.TheVariants.{Conclusion, Count, Del, Pol}
 use Rattle.proof_lines.specs.declared.note.Note.{Note}
 use Rattle.proof_lines.specs.Spelling.{most_bytes}
-use Rattle.proof_lines.specs.Texts.{is_spellable_note, line_text, note_text}
+use Rattle.proof_lines.specs.Texts.{is_spellable_note, note_text}
 use Rattle.stability_model.specs.Model.{formula, rows}
 use Rattle.proof_rules.specs.Claims.{Shows}
 use Rattle.proof_rules.specs.States.{IsInOrder, first_state}

@@ -1,7 +1,6 @@
 -- What the calls of a derivation ask for, and what they do to it.
 use Rattle.std.specs.Prelude.{◌≡◌, ℕ, ◌+◌, ◌<◌, ◌≤◌, ◌^◌, ◌==◌, not, filter, List, [], ◌∷◌, ◌++◌, length, map, IsTrue, ℤ, pos, Some, None, Result, Ok, Err}
 use Rattle.hrt_base.specs.declared.literal.Lit.{Lit}
-use Rattle.hrt_base.specs.declared.numbered.RowNo.{RowNo}
 use Rattle.pb_rows.specs.Terms.{PlainRow, Written}
 use Rattle.pb_rows.specs.Points.{Point}
 use Rattle.rank_tables.specs.Instance.{Lists}

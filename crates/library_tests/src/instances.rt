@@ -1,6 +1,7 @@
 //! Small instances that were worked by hand.
 ghost use Rattle.std.specs.Prelude.{◌≡◌, ◌≤◌, [], ◌∷◌, true, false, IfOk};
 ghost use Rattle.rank_tables.specs.Instance.{pair_count};
+ghost use Rattle.library_tests.specs.Worked.{tied};
 
 use crate::drafts::{hospital, one, resident, three, two};
 use hrt_base::NoMemory;
@@ -43,7 +44,8 @@ fn strict_hospitals(alloc: Global) -> Result<Vec<DraftHospital>, NoMemory>
 
 /// a: x y, b: x; x 1: (a b), y 1: a
 pub fn tied(alloc: Global) -> Result<Instance, Fail>
-    ensures { IfOk result (λ instance. pair_count instance ≡ 3) }
+    ensures is { IfOk result (λ instance. instance ≡ tied) }
+    ensures pairs { IfOk result (λ instance. pair_count instance ≡ 3) }
 {
     let draft = Draft {
         residents: two_residents(alloc)?,

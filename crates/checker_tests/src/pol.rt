@@ -62,3 +62,29 @@ fn the_steps_of_pol_lines(rt: HostRuntime) {
         assert_eq!(rt; refusal(rt.alloc(), steps), *wanted, "{steps:?}");
     }
 }
+
+// Variables that are weakened one behind the other are taken in one pass.
+#[test]
+fn runs_of_weakenings(rt: HostRuntime) {
+    let cases: [(&[u8], Option<ProofRefusal>); 7] = [
+        (b"pol 1 x1 w x2 w x3 w x1 w\n", None),
+        // the first variable that is none, and what follows it
+        (
+            b"pol 1 x1 w x4 w x5 w\n",
+            Some(ProofRefusal::BadVariable(3, 4)),
+        ),
+        (b"pol 1 x1 w x2 w 9 +\n", Some(ProofRefusal::BadId(3, 9))),
+        // each row of the stack is weakened by its own
+        (b"pol 1 x1 w 2 x3 w\n", Some(ProofRefusal::StackShape(3))),
+        (b"pol 1 x1 w 2 x3 w +\ndel id 3\n", None),
+        // what is left of 1 x1 + 2 x2 + 1 x3 >= 2 asks for x2, and of each of its rows alone for nothing
+        (b"pol 1 2 + x1 w x3 w s\nrup +1 x2 >= 0 ;\n", None),
+        (
+            b"pol 1 x1 w 2 x3 w +\nrup +1 x2 >= 1 ;\n",
+            Some(ProofRefusal::NotImplied(4)),
+        ),
+    ];
+    for (steps, wanted) in cases.iter() {
+        assert_eq!(rt; refusal(rt.alloc(), steps), *wanted, "{steps:?}");
+    }
+}

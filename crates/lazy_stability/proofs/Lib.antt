@@ -2,3 +2,8 @@ mod Tabled
 mod Asked
 mod Written
 mod Blocking
+mod Full
+mod Honest
+mod LoadText
+mod Added
+mod Loaded

@@ -2,7 +2,9 @@
 //! loading of their rows with one honest note.
 #![tactic(auto)]
 
+mod loading;
 mod posts;
 mod table;
 
+pub use loading::load;
 pub use posts::Posts;

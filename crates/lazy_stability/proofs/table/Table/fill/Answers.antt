@@ -1,4 +1,4 @@
-use Rattle.std.proofs.Common.{List, ℕ, filter, sym, ◌∙◌, subst}
+use Rattle.std.proofs.Common.{List, ℕ, sym, ◌∙◌, subst}
 use Rattle.lazy_stability.specs.Candidates.{point_of_trail}
 use Rattle.lazy_stability.specs.Table.{ArePosts}
 use Rattle.lazy_stability.proofs.Written.{fails, passes}

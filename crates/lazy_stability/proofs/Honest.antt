@@ -1,11 +1,12 @@
 -- A load of the rows of pairs that block the candidate of a full quiet engine is honest.
-use Rattle.std.proofs.Common.{◌≡◌, ℕ, ◌<◌, true, false, not, List, [], ◌∷◌, length, refl, sym, ap, ◌∙◌, arith}
+use Rattle.std.proofs.Common.{◌≡◌, ℕ, ◌<◌, ◌≤◌, true, false, not, List, [], ◌∷◌, length, refl, sym, ap, ◌∙◌, arith}
 use Rattle.std.specs.Prelude.{IsTrue, Some}
 use Rattle.std.specs.List.{All}
 use Rattle.std.proofs.lemmas.Bool.{false_from_ne_true, true≢false}
 use Rattle.std.proofs.lemmas.List.Elements.{All-cons, All-head, All-nil, All-tail}
 use Rattle.hrt_base.specs.declared.numbered.PairNo.{PairNo}
 use Rattle.pb_rows.specs.Terms.{PlainRow}
+use Rattle.pb_rows.specs.Points.{Point}
 use Rattle.pb_rows.specs.Rows.{holds, in_normal_form}
 use Rattle.pb_rows.specs.Formula.{row_of}
 use Rattle.rank_tables.specs.Instance.{Lists}
@@ -44,12 +45,15 @@ pairs_broken lists m (p ∷ pairs) matching each =
 -- ---- the load
 
 module _ (e : EngineState) (d : Derived) (agree : Agree e d) (order : IsStateInOrder d.state) (full : IsFull e) (sound : IsSound e) (idle : IsIdle e) where
-  -- what is held holds at the candidate
-  pub held_hold : All (λ (r : PlainRow). IsTrue (holds (point_of_pairs (candidate d.lists e)) r)) (held_rows d.state.live d.held)
-  held_hold =
+  -- what is held holds at a point that goes with the trail
+  pub hold_at : (point : Point) → ((v : ℕ) → 1 ≤ v → v ≤ e.vars → point v ≡ set_of e.trail (record { var = v; neg = false })) → All (λ (r : PlainRow). IsTrue (holds point r)) (held_rows d.state.live d.held)
+  hold_at point same =
       let keeps = idle_keeps e sound idle in
-      held_all (λ (r : PlainRow). IsTrue (holds (point_of_pairs (candidate d.lists e)) r)) e d agree order
-      (λ k h l. kept_holds e.vars (set_of e.trail) (point_of_pairs (candidate d.lists e)) full (λ v first last. candidate_point d.lists e v first (omega (arith, last, agree.vars))) _ (sound.held.kept k h l).over (keeps k h l))
+      held_all (λ (r : PlainRow). IsTrue (holds point r)) e d agree order (λ k h l. kept_holds e.vars (set_of e.trail) point full same _ (sound.held.kept k h l).over (keeps k h l))
+
+  -- as the candidate's does
+  held_hold : All (λ (r : PlainRow). IsTrue (holds (point_of_pairs (candidate d.lists e)) r)) (held_rows d.state.live d.held)
+  held_hold = hold_at (point_of_pairs (candidate d.lists e)) (λ v first last. candidate_point d.lists e v first (omega (arith, last, agree.vars)))
 
   pub honest : (pairs : List PairNo) → is_matching d.lists (candidate d.lists e) ≡ true → 0 < length (row_numbers_of d.lists pairs) → AreBlocking d.lists (candidate d.lists e) pairs →
       HonestLoad d.lists (held_rows d.state.live d.held) (candidate d.lists e) (row_numbers_of d.lists pairs)

@@ -7,3 +7,6 @@ mod Honest
 mod LoadText
 mod Added
 mod Loaded
+mod Filled
+mod Lazy
+mod Matched

@@ -1,3 +1,4 @@
 pub mod Table
 pub mod Candidates
 pub mod Loads
+pub mod Laws

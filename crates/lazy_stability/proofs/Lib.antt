@@ -2,3 +2,11 @@ mod Tabled
 mod Asked
 mod Written
 mod Blocking
+mod Full
+mod Honest
+mod LoadText
+mod Added
+mod Loaded
+mod Filled
+mod Lazy
+mod Matched

@@ -1,2 +1,4 @@
 pub mod Table
 pub mod Candidates
+pub mod Loads
+pub mod Laws

@@ -2,7 +2,6 @@
 use Rattle.std.specs.Prelude.{◌≡◌, ◌<◌, ◌-◌, ℕ, Bool, not, ◌==◌, ◌&&◌, ◌||◌, nat_lt, List, length, count_by, slice_index}
 use Rattle.std.specs.List.{list_all, list_any}
 use Rattle.rank_tables.specs.Instance.{Lists, capacity_of, pair_at, rank_by_hospital, rank_by_resident}
-use Rattle.rank_tables.specs.Stability.{uses_of_hospital}
 
 -- the rank is strictly higher than the best one, where there is one; 0 stands for none
 abbrev pub is_above : ℕ → ℕ → Bool

@@ -1,8 +1,15 @@
-//! Rows of pairs that a search holds only from the moment at which a candidate breaks them: which pairs block a candidate, and the
-//! loading of their rows with one honest note.
+//! Rows of pairs that a search holds only from the moment at which a candidate breaks them: which pairs block a candidate, the loading
+//! of their rows with one honest note, and laws for those who load, which are functions with empty bodies.
 #![tactic(auto)]
 
+mod laws;
+mod loading;
 mod posts;
 mod table;
 
+pub use laws::{
+    candidates_are_matchings, full_where_none_is_free, lawful_rows_are_lazy, loads_are_lawful,
+    notes_keep_first,
+};
+pub use loading::load;
 pub use posts::Posts;

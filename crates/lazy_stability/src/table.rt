@@ -149,11 +149,11 @@ impl Table {
         ensures { ArePosts inst.now (candidate inst.now engine.now) self.new.best.items self.new.worst.items self.new.free.items }
     {
         self.clear(inst);
-        for p in 1..inst.pairs() + 1 {
-            if !is_taken(engine, PairNo(p)) {
+        for taken in 1..inst.pairs() + 1 {
+            if !is_taken(engine, PairNo(taken)) {
                 continue;
             }
-            self.take(inst, PairNo(p));
+            self.take(inst, PairNo(taken));
         }
     }
 

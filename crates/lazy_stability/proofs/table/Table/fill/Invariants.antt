@@ -4,5 +4,5 @@ use Rattle.lazy_stability.specs.Candidates.{point_of_trail}
 use Rattle.lazy_stability.specs.Table.{ArePosts}
 use Rattle.lazy_stability.proofs.table.Table.fill.Given as goal
 
-abbrev pub invariant-loop-p : goal.invariant-loop-p
-invariant-loop-p l = ArePosts l.inst (filter (point_of_trail l.engine.trail) (numbers_to (l.p - 1))) l.self.best.items l.self.worst.items l.self.free.items
+abbrev pub invariant-loop-taken : goal.invariant-loop-taken
+invariant-loop-taken l = ArePosts l.inst (filter (point_of_trail l.engine.trail) (numbers_to (l.taken - 1))) l.self.best.items l.self.worst.items l.self.free.items

@@ -13,12 +13,15 @@ ghost use Rattle.pb_propagate.specs.Visits.{IsDue, VisitsLiteral, VisitsRow};
 
 use crate::scanning::scan;
 use crate::serving::{lowest_open, serve};
+use crate::standing::sweep;
 use crate::trail::Trail;
 use crate::visit::{Due, Visit};
 use hrt_base::{Lit, NoMemory, RowNo, Steps, Value};
+use level_sweep::Standing;
 use pb_rows::Row;
 use row_arena::{Arena, Place};
 use std::alloc::Global;
+use std::cell::RefCell;
 use std::marker::Model;
 use std::sync::ledger::Ledger;
 
@@ -30,6 +33,7 @@ pub struct Engine {
     places: Vec<Place>,
     trail: Trail,
     due_rows: Vec<Place>,
+    room: RefCell<Vec<Standing>>,
 }
 
 impl Model for Engine {
@@ -54,6 +58,7 @@ impl Engine {
             places: Vec::new(alloc),
             trail: Trail::new(alloc, vars)?,
             due_rows: Vec::new(alloc),
+            room: RefCell::new(Vec::new(alloc)),
         })
     }
 
@@ -67,6 +72,9 @@ impl Engine {
     {
         self.places.reserve(1)?;
         self.due_rows.reserve(1)?;
+        let room = self.room.get_mut();
+        room.clear();
+        room.reserve(row.terms().len())?;
         let place = self.arena.push(alloc, row, tag)?;
         self.places.push_reserved(place);
         self.due_rows.push_reserved(place);
@@ -85,7 +93,13 @@ impl Engine {
         requires { IsTrue (is_held place.0 self.now.held) }
         ensures { IsLowestOpen self.now (row_at place.0 self.now.held) result }
     {
-        lowest_open(&self.arena, place, &self.trail)
+        let Ok(mut room) = self.room.try_borrow_mut() else {
+            return lowest_open(&self.arena, place, &self.trail);
+        };
+        if room.capacity() < self.arena.len(place) {
+            return lowest_open(&self.arena, place, &self.trail);
+        }
+        sweep(&self.arena, place, &self.trail, &mut room)
     }
 
     /// Opens a level with a free literal, while nothing is due.

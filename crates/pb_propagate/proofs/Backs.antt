@@ -1,31 +1,30 @@
 -- Tables of a trail as they are read, and as it goes back.
-use Rattle.std.proofs.Common.{◌≡◌, ◌==◌, ◌||◌, ◌&&◌, ◌<◌, ◌≤◌, ◌+◌, ◌-◌, ◌^◌, ℕ, Bool, true, false, not, if◌then◌else◌, List, [], ◌∷◌, ◌++◌, filter, length, length-append, take, get_or, refl, sym, ◌∙◌, ap, subst, arith, inl, inr, append_assoc, Option, Some, None, nat_lt}
+use Rattle.std.proofs.Common.{◌≡◌, ◌||◌, ◌&&◌, ◌<◌, ◌≤◌, ◌+◌, ◌-◌, ℕ, Bool, true, false, not, if◌then◌else◌, List, [], ◌∷◌, ◌++◌, length, length-append, take, get_or, refl, sym, ◌∙◌, ap, subst, arith, inl, inr, append_assoc, Some, None}
 use Rattle.std.specs.Prelude.{vec_capacity, nat_le}
 use Rattle.std.specs.declared.vec.Vec.{Vec}
 use Rattle.std.specs.List.{All}
-use Rattle.std.proofs.lemmas.Bool.{cases_Bool, cases_lt, le-ltb, lt-ltb, or_left, or_right}
+use Rattle.std.proofs.lemmas.Bool.{cases_Bool, cases_lt}
 use Rattle.std.proofs.lemmas.List.{take_at}
-use Rattle.std.proofs.lemmas.List.Elements.{All-contains, All-filter, All-nil}
+use Rattle.std.proofs.lemmas.List.Elements.{All-filter, All-nil}
 use Rattle.hrt_base.specs.declared.literal.Lit.{Lit}
 use Rattle.hrt_base.specs.declared.literal.Value.{Value}
 use Rattle.hrt_base.specs.declared.literal.Value.TheVariants.{False, Free, True}
 use Rattle.pb_rows.specs.Points.{IsCovered}
 use Rattle.pb_rows.specs.Closure.{among, is_same_lit}
 use Rattle.propagation.specs.Tables.{IsTable}
-use Rattle.propagation.proofs.Sets.{contained, lit_is}
+use Rattle.propagation.proofs.Sets.{lit_is}
 use Rattle.pb_propagate.specs.declared.trail.Mark.{Mark}
-use Rattle.pb_propagate.specs.Entries.{Entry, IsNewlyFalse, is_decision, level_in, level_of, lits_of, reason_in, set_of, up_to, value_in}
+use Rattle.pb_propagate.specs.Entries.{Entry, IsNewlyFalse, is_decision, level_in, level_of, reason_in, set_of, up_to, value_in}
 use Rattle.pb_propagate.specs.Engines.{without_lit}
-use Rattle.pb_propagate.specs.Tables.{AreLevels, TrailState, entries_of, mark_of, no_mark, number_of, starts_from}
+use Rattle.pb_propagate.specs.Tables.{AreLevels, entries_of, mark_of, no_mark, number_of, starts_from}
 use Rattle.pb_propagate.specs.Rooms.{AreTables}
 use Rattle.pb_propagate.specs.Serving.{IsTrueFrom}
-use Rattle.pb_propagate.proofs.Levels.{up_to-all}
 use Rattle.pb_propagate.proofs.Starts.{starts-at, starts-up_to, up_to-take}
 use Rattle.pb_propagate.proofs.News.{false-front}
 use Rattle.pb_propagate.proofs.Marks.{entries-take, levels-front, lits-entries}
 use Rattle.pb_propagate.proofs.Looks.{has_var, level-found, reason-found, true-up_to, uncovered, value-read, var-true}
 use Rattle.pb_propagate.proofs.Levels.{up_to-front}
-use Rattle.pb_propagate.proofs.Tabled.{entries-length, level-few}
+use Rattle.pb_propagate.proofs.Tabled.{entries-length}
 
 abbrev lit_as : ℕ → Bool → Lit
 lit_as v n = record { var = v; neg = n }

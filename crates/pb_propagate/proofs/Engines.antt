@@ -1,21 +1,18 @@
 -- What each call of an engine keeps of the facts of every moment.
-use Rattle.std.proofs.Common.{◌≡◌, ◌==◌, ◌&&◌, ◌||◌, ◌<◌, ◌≤◌, ◌+◌, ℕ, Bool, true, false, not, List, [], ◌∷◌, ◌++◌, map, filter, length, get_or, refl, sym, ◌∙◌, ap, subst, arith, inl, inr, append-nil, Option, Some, None, zero, suc, is_none, ◌-◌}
-use Rattle.std.specs.List.{All, Contains, list_any}
-use Rattle.std.proofs.lemmas.Bool.{and_from, and_parts, cases_Bool, cases_eq, cases_lt, eq-eqb, false_from_ne_true, ne_eqb, or_cases, or_left, or_parts, or_right}
-use Rattle.std.proofs.lemmas.List.{map-append}
+use Rattle.std.proofs.Common.{◌≡◌, ◌==◌, ◌&&◌, ◌||◌, ◌<◌, ℕ, true, false, not, List, [], ◌∷◌, ◌++◌, length, get_or, refl, sym, ◌∙◌, ap, subst, arith, inl, inr, append-nil, Some, None, zero, suc, is_none, ◌-◌}
+use Rattle.std.specs.List.{All, list_any}
+use Rattle.std.proofs.lemmas.Bool.{cases_Bool, cases_eq, cases_lt, eq-eqb, false_from_ne_true, ne_eqb, or_cases, or_left, or_parts, or_right}
 use Rattle.std.proofs.lemmas.List.Folds.{list_any-append, list_any_at}
 use Rattle.std.proofs.lemmas.List.Elements.{All-append, All-filter, All-map, All-nil, All-push, All-weaker}
 use Rattle.hrt_base.specs.declared.literal.Lit.{Lit}
 use Rattle.hrt_base.specs.declared.literal.Term.{Term}
 use Rattle.pb_rows.specs.Terms.{PlainRow, opposite_lit}
-use Rattle.pb_rows.specs.Closure.{Keeps, Literals, among, is_same_lit, nonfalse_sum}
-use Rattle.propagation.specs.Tables.{AreConsistent}
-use Rattle.propagation.proofs.Following.{Within}
+use Rattle.pb_rows.specs.Closure.{Keeps, among, is_same_lit}
 use Rattle.propagation.proofs.Sets.{flips, lit_cases, lit_is, lit_itself}
-use Rattle.row_arena.specs.Held.{AreHeld, Held, IsKept, is_held, row_at}
+use Rattle.row_arena.specs.Held.{AreHeld, Held, is_held, row_at}
 use Rattle.row_arena.proofs.Places.{held-grown, row_at-each, row_at-grown}
-use Rattle.pb_propagate.specs.Entries.{Entry, IsNewlyFalse, is_decision, level_of, lits_of, opposites, set_of, up_to}
-use Rattle.pb_propagate.specs.Open.{AreJustified, IsServed}
+use Rattle.pb_propagate.specs.Entries.{Entry, level_of, lits_of, opposites, set_of, up_to}
+use Rattle.pb_propagate.specs.Open.{AreJustified}
 use Rattle.pb_propagate.specs.Engines.{AreKept, AreKeptBelow, EngineState, IsIdle, IsKeptBelow, has_literal, is_due_literal, is_due_row, watches, without_lit, without_place}
 use Rattle.pb_propagate.specs.Moments.{IsSound, IsKeptOnceVisited, IsKeptUnlessWaiting}
 use Rattle.pb_propagate.proofs.Levels.{AreReasoned, level-append, level-more, level-most, level-up_to, set-append, set-within, up_to-above, up_to-all, up_to-below, up_to-front, up_to-up_to}

@@ -1,15 +1,14 @@
 -- Reasons: what the literals of a trail follow from.
-use Rattle.std.proofs.Common.{◌≡◌, ◌&&◌, ◌<◌, ◌≤◌, ◌+◌, ℕ, Bool, true, false, not, List, [], ◌∷◌, ◌++◌, refl, sym, ◌∙◌, ap, subst, arith, inl, inr, append-nil, append_assoc, Option, Some, None}
-use Rattle.std.specs.List.{All, Contains}
+use Rattle.std.proofs.Common.{◌≡◌, ℕ, Bool, true, false, not, List, [], ◌∷◌, ◌++◌, refl, sym, subst, arith, inl, inr, append-nil, append_assoc, Option, Some, None}
 use Rattle.std.proofs.lemmas.Bool.{and_parts, cases_Bool, or_left, or_right}
 use Rattle.hrt_base.specs.declared.literal.Lit.{Lit}
 use Rattle.hrt_base.specs.declared.literal.Term.{Term}
 use Rattle.pb_rows.specs.Terms.{PlainRow, opposite_lit}
-use Rattle.pb_rows.specs.Closure.{IsQuiet, Literals, Propagates, among, is_same_lit, nonfalse_sum}
+use Rattle.pb_rows.specs.Closure.{Literals, Propagates, among, nonfalse_sum}
 use Rattle.propagation.specs.Following.{Follows, IsOpenTerm}
 use Rattle.propagation.proofs.Sets.{among-cases, lit_itself}
 use Rattle.propagation.proofs.Following.{follows-open}
-use Rattle.row_arena.specs.Held.{Held, held_rows, is_held, row_at}
+use Rattle.row_arena.specs.Held.{Held, held_rows, row_at}
 use Rattle.row_arena.proofs.Places.{held-grown, row_at-contained, row_at-grown}
 use Rattle.pb_propagate.specs.Entries.{Entry, decisions_of, is_decision, lits_of}
 use Rattle.pb_propagate.specs.Open.{AreJustified, IsJustified, IsReasonOf, PropagatesLit}

@@ -1,12 +1,12 @@
 -- Rows that stay kept while a set of literals grows.
-use Rattle.std.proofs.Common.{◌≡◌, ◌<◌, ◌≤◌, ◌+◌, ℕ, Bool, true, false, if◌then◌else◌, List, [], ◌∷◌, length, get_or, refl, sym, ◌∙◌, arith, inl, inr}
-use Rattle.std.specs.List.{All, Contains}
-use Rattle.std.proofs.lemmas.Bool.{cases_Bool, false_from_ne_true}
+use Rattle.std.proofs.Common.{◌≡◌, ◌≤◌, ℕ, Bool, true, false, if◌then◌else◌, List, [], ◌∷◌, get_or, refl, arith}
+use Rattle.std.specs.List.{All}
+use Rattle.std.proofs.lemmas.Bool.{false_from_ne_true}
 use Rattle.std.proofs.lemmas.List.{get_or_default}
 use Rattle.std.proofs.lemmas.List.Elements.{All-head, All-tail}
 use Rattle.hrt_base.specs.declared.literal.Term.{Term}
 use Rattle.pb_rows.specs.Terms.{PlainRow, opposite_lit, positive_part}
-use Rattle.pb_rows.specs.Closure.{Keeps, Literals, Propagates, nonfalse_share, nonfalse_sum}
+use Rattle.pb_rows.specs.Closure.{Keeps, Literals, nonfalse_sum}
 use Rattle.propagation.proofs.Following.{Within, nonfalse_sum-anti, open_within}
 use Rattle.pb_propagate.specs.Open.{IsServed}
 use Rattle.pb_propagate.proofs.Justified.{open-term}

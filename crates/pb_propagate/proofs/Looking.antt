@@ -1,5 +1,5 @@
 -- Looks at the rows that watch a literal.
-use Rattle.std.proofs.Common.{◌≡◌, ◌&&◌, ◌||◌, ◌<◌, ◌≤◌, ◌+◌, ℕ, Bool, true, false, not, List, [], ◌∷◌, ◌++◌, map, filter, length, get_or, refl, sym, ◌∙◌, ap, subst, arith, inl, inr, append_assoc, append-nil, Option, Some, None, is_none}
+use Rattle.std.proofs.Common.{◌≡◌, ◌<◌, ◌≤◌, ◌+◌, ℕ, Bool, true, false, List, [], ◌∷◌, ◌++◌, map, length, get_or, refl, sym, ◌∙◌, ap, subst, arith, inl, inr, append_assoc, append-nil, Option, Some, None, is_none}
 use Rattle.std.specs.List.{All}
 use Rattle.std.proofs.lemmas.Bool.{cases_Bool, cases_lt, false_from_ne_true, or_cases, or_parts}
 use Rattle.std.proofs.lemmas.List.{get_or-map, get_or_default as any-default, length-map, map-append}
@@ -8,17 +8,17 @@ use Rattle.hrt_base.specs.declared.literal.Lit.{Lit}
 use Rattle.pb_rows.specs.Terms.{PlainRow, opposite_lit}
 use Rattle.pb_rows.specs.Closure.{Falsified, Keeps, among, is_same_lit}
 use Rattle.propagation.proofs.Following.{Within}
-use Rattle.propagation.proofs.Sets.{contained, lit_cases, lit_is}
+use Rattle.propagation.proofs.Sets.{contained, lit_is}
 use Rattle.row_arena.specs.declared.arena.Place.{Place}
 use Rattle.row_arena.specs.Held.{AreHeld, Held, is_held, row_at}
 use Rattle.row_arena.proofs.Places.{row_at-each}
-use Rattle.pb_propagate.specs.Entries.{Entry, is_decision, lits_of, opposites, set_of}
+use Rattle.pb_propagate.specs.Entries.{Entry, lits_of, opposites, set_of}
 use Rattle.pb_propagate.specs.Open.{AreJustified, IsServed}
-use Rattle.pb_propagate.specs.Engines.{EngineState, has_literal, is_due_literal, is_due_row, watches, without_lit}
+use Rattle.pb_propagate.specs.Engines.{EngineState, is_due_literal, watches, without_lit}
 use Rattle.pb_propagate.specs.Moments.{IsSound}
 use Rattle.pb_propagate.specs.Tables.{TrailState}
-use Rattle.pb_propagate.specs.Visits.{Adds, FailsAtLiteral, IsByWatcher, IsDueTo, ServesLiteral}
-use Rattle.pb_propagate.specs.Serving.{FailsAt, Looks, ServesAt}
+use Rattle.pb_propagate.specs.Visits.{FailsAtLiteral, IsByWatcher, IsDueTo, ServesLiteral}
+use Rattle.pb_propagate.specs.Serving.{Looks, ServesAt}
 use Rattle.pb_propagate.specs.Scans.{IsScanned, StopsAt, WaitsForOthers}
 use Rattle.pb_propagate.proofs.Levels.{AreReasoned, lits-append, set-within}
 use Rattle.pb_propagate.proofs.Justified.{justified-append}

@@ -1,8 +1,8 @@
 -- What the tables of a trail say of a variable.
-use Rattle.std.proofs.Common.{◌≡◌, ◌==◌, ◌||◌, ◌&&◌, ◌<◌, ◌≤◌, ◌+◌, ◌-◌, ℕ, Bool, true, false, not, if◌then◌else◌, List, [], ◌∷◌, ◌++◌, length, get_or, refl, sym, ◌∙◌, ap, subst, arith, inl, inr, Option, Some, None}
+use Rattle.std.proofs.Common.{◌≡◌, ◌==◌, ◌||◌, ◌&&◌, ◌<◌, ◌≤◌, ◌+◌, ◌-◌, ℕ, Bool, true, false, not, if◌then◌else◌, List, [], ◌∷◌, get_or, refl, sym, ◌∙◌, ap, arith, inl, inr, Option, Some, None}
 use Rattle.std.specs.Prelude.{nat_le}
 use Rattle.std.specs.List.{All, list_any}
-use Rattle.std.proofs.lemmas.Bool.{cases_Bool, cases_eq, cases_lt, eqb-true, eq-eqb, false_from_ne_true, le-leb, lt-leb, ne_eqb, or_cases, or_from, or_left, or_parts, or_right}
+use Rattle.std.proofs.lemmas.Bool.{cases_Bool, cases_eq, cases_lt, eq-eqb, false_from_ne_true, le-leb, lt-leb, ne_eqb, or_right}
 use Rattle.std.proofs.lemmas.List.Elements.{All-contains}
 use Rattle.hrt_base.specs.declared.literal.Lit.{Lit}
 use Rattle.hrt_base.specs.declared.literal.Value.{Value}
@@ -13,7 +13,7 @@ use Rattle.propagation.specs.Tables.{IsTable}
 use Rattle.propagation.proofs.Sets.{contained, lit_cases, lit_is}
 use Rattle.propagation.proofs.Tables.{table_at}
 use Rattle.pb_propagate.specs.declared.trail.Mark.{Mark}
-use Rattle.pb_propagate.specs.Entries.{Entry, is_decision, level_from, level_of, lits_of, reason_in, set_of, up_to, value_in}
+use Rattle.pb_propagate.specs.Entries.{Entry, is_decision, level_from, reason_in, set_of, up_to}
 use Rattle.pb_propagate.specs.Tables.{AreLevels, entries_of, mark_of, no_mark, number_of}
 
 abbrev lit_as : ℕ → Bool → Lit

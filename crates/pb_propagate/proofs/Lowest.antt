@@ -1,16 +1,13 @@
 -- Rows under the literals of one level and of another.
-use Rattle.std.proofs.Common.{◌≡◌, ◌&&◌, ◌<◌, ◌≤◌, ◌+◌, ◌⊎◌, ℕ, Bool, true, false, not, List, [], ◌∷◌, ◌++◌, length, take, get_or, refl, sym, ◌∙◌, ap, subst, arith, inl, inr, Option, Some, None}
-use Rattle.std.specs.List.{All}
+use Rattle.std.proofs.Common.{◌≡◌, ◌<◌, ◌≤◌, ◌+◌, ℕ, true, false, List, [], length, take, get_or, sym, ◌∙◌, ap, arith, inl, inr, Option, Some, None}
 use Rattle.std.proofs.lemmas.Bool.{cases_lt, le-leb, lt-leb}
-use Rattle.std.proofs.lemmas.List.{get_or_default, take_all}
-use Rattle.std.proofs.lemmas.List.Elements.{All-more, All-nil}
+use Rattle.std.proofs.lemmas.List.Elements.{All-more}
 use Rattle.hrt_base.specs.declared.literal.Lit.{Lit}
 use Rattle.hrt_base.specs.declared.literal.Term.{Term}
-use Rattle.pb_rows.specs.Terms.{PlainRow, opposite_lit, positive_part}
-use Rattle.pb_rows.specs.Closure.{Keeps, Literals, nonfalse_sum}
+use Rattle.pb_rows.specs.Terms.{PlainRow, opposite_lit}
+use Rattle.pb_rows.specs.Closure.{Keeps}
 use Rattle.propagation.proofs.Following.{Within}
-use Rattle.pb_propagate.specs.Entries.{Entry, level_of, set_of, up_to}
-use Rattle.pb_propagate.specs.Open.{IsOpen, PropagatesLit}
+use Rattle.pb_propagate.specs.Entries.{Entry, set_of, up_to}
 use Rattle.pb_propagate.specs.Serving.{AreUntouchedBetween, IsLowestFrom, IsNearer, IsNextAmong, IsTrueFrom}
 use Rattle.pb_propagate.proofs.Levels.{up_to-up_to, up_to-within}
 use Rattle.pb_propagate.proofs.Kept.{keeps-grown}

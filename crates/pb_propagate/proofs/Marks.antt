@@ -1,23 +1,17 @@
 -- The tables of a trail: what they say, and how they change where a literal comes onto it.
-use Rattle.std.proofs.Common.{◌≡◌, ◌==◌, ◌||◌, ◌&&◌, ◌<◌, ◌≤◌, ◌+◌, ◌-◌, ℕ, zero, suc, Bool, true, false, not, if◌then◌else◌, List, [], ◌∷◌, ◌++◌, map, length, take, get_or, refl, sym, ◌∙◌, ap, subst, arith, inl, inr, append-nil, Option, Some, None}
+use Rattle.std.proofs.Common.{◌≡◌, ◌==◌, ◌||◌, ◌<◌, ◌+◌, ◌-◌, ℕ, zero, suc, Bool, true, false, not, if◌then◌else◌, List, [], ◌∷◌, ◌++◌, length, take, get_or, refl, sym, ◌∙◌, ap, subst, arith}
 use Rattle.std.specs.List.{All, list_any}
 use Rattle.std.proofs.Math.ListN.{set}
-use Rattle.std.proofs.lemmas.Bool.{cases_Bool, cases_eq, cases_lt, eqb-true, eq-eqb, false_from_ne_true, ne_eqb, or_cases, or_left, or_parts, or_right, or_from}
-use Rattle.std.proofs.lemmas.List.{get_or-set_other, get_or-set_same, map-append, take-map}
-use Rattle.std.proofs.lemmas.List.Elements.{All-head, All-tail, All-map, All-contains, All-weaker}
+use Rattle.std.proofs.lemmas.Bool.{eq-eqb, false_from_ne_true, or_parts}
+use Rattle.std.proofs.lemmas.List.{get_or-set_other, get_or-set_same, take-map}
+use Rattle.std.proofs.lemmas.List.Elements.{All-head, All-tail, All-map, All-weaker}
 use Rattle.hrt_base.specs.declared.literal.Lit.{Lit}
-use Rattle.hrt_base.specs.declared.literal.Value.{Value}
-use Rattle.hrt_base.specs.declared.literal.Value.TheVariants.{False, Free, True}
 use Rattle.pb_rows.specs.Terms.{opposite_lit}
 use Rattle.pb_rows.specs.Points.{IsCovered}
-use Rattle.pb_rows.specs.Closure.{among, is_same_lit, makes_true}
-use Rattle.propagation.specs.Tables.{IsTable, lit_at}
-use Rattle.propagation.proofs.Sets.{contained}
-use Rattle.propagation.proofs.Tables.{table_at}
+use Rattle.pb_rows.specs.Closure.{among, is_same_lit}
 use Rattle.pb_propagate.specs.declared.trail.Mark.{Mark}
-use Rattle.pb_propagate.specs.Entries.{Entry, is_decision, is_reason_in, is_row, level_from, level_of, lits_of, reason_in, set_of, up_to}
+use Rattle.pb_propagate.specs.Entries.{Entry, is_decision, is_reason_in, is_row, level_of, lits_of}
 use Rattle.pb_propagate.specs.Tables.{AreLevels, entries_of, mark_of, no_mark, number_of}
-use Rattle.pb_propagate.proofs.Levels.{up_to-front}
 
 abbrev entry_as : Lit → Mark → Entry
 entry_as l m = record { lit = l; reason = number_of m.reason }

@@ -1,11 +1,8 @@
 -- Literals that became false at the last level.
-use Rattle.std.proofs.Common.{◌≡◌, ◌<◌, ◌≤◌, ◌+◌, ◌-◌, ℕ, Bool, true, false, not, if◌then◌else◌, List, [], ◌∷◌, ◌++◌, refl, sym, ◌∙◌, ap, subst, arith, inl, inr, append-nil}
-use Rattle.std.specs.List.{All}
+use Rattle.std.proofs.Common.{◌≡◌, ◌<◌, ◌-◌, ℕ, Bool, true, false, not, List, [], ◌∷◌, ◌++◌, refl, ◌∙◌, ap, arith, inl, inr, append-nil}
 use Rattle.std.proofs.lemmas.Bool.{cases_Bool, cases_lt, false_from_ne_true}
-use Rattle.std.proofs.lemmas.List.Elements.{All-weaker, All-push}
 use Rattle.hrt_base.specs.declared.literal.Lit.{Lit}
 use Rattle.pb_rows.specs.Terms.{opposite_lit}
-use Rattle.pb_rows.specs.Closure.{among}
 use Rattle.propagation.proofs.Sets.{lit_itself}
 use Rattle.pb_propagate.specs.Entries.{Entry, IsNewlyFalse, is_decision, level_of, set_of, up_to}
 use Rattle.pb_propagate.proofs.Levels.{AreReasoned, level-append, level-more, set-append, set-within, up_to-above, up_to-below, up_to-within}

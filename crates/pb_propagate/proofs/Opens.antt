@@ -1,11 +1,10 @@
 -- Rows that are open and rows that aren't, as they are found.
-use Rattle.std.proofs.Common.{◌≡◌, ◌&&◌, ◌<◌, ◌≤◌, ◌+◌, ℕ, Bool, true, false, not, List, length, take, get_or, refl, sym, ◌∙◌, ap, arith, inl, inr}
-use Rattle.std.specs.List.{All}
+use Rattle.std.proofs.Common.{◌≡◌, ◌&&◌, ◌<◌, ◌+◌, ℕ, Bool, true, false, not, List, length, get_or, refl, sym, ap, arith, inr}
 use Rattle.hrt_base.specs.declared.literal.Term.{Term}
 use Rattle.pb_rows.specs.Terms.{PlainRow, opposite_lit, positive_part}
-use Rattle.pb_rows.specs.Closure.{IsSettled, Literals, nonfalse_sum}
+use Rattle.pb_rows.specs.Closure.{Literals, nonfalse_sum}
 use Rattle.pb_propagate.specs.Entries.{Entry, level_of, set_of, up_to}
-use Rattle.pb_propagate.specs.Open.{IsOpen, PropagatesLit}
+use Rattle.pb_propagate.specs.Open.{IsOpen}
 use Rattle.pb_propagate.proofs.Levels.{up_to-all}
 
 -- what is false where a literal isn't free though it isn't false

@@ -1,13 +1,13 @@
 -- Serving a row, one term after another.
-use Rattle.std.proofs.Common.{◌≡◌, ◌==◌, ◌&&◌, ◌||◌, ◌<◌, ◌≤◌, ◌+◌, ◌⊎◌, ℕ, zero, suc, Bool, true, false, not, List, [], ◌∷◌, ◌++◌, length, take, get_or, refl, sym, ◌∙◌, ap, subst, arith, inl, inr, append_assoc, append-nil, Option, Some, None}
+use Rattle.std.proofs.Common.{◌≡◌, ◌||◌, ◌<◌, ◌≤◌, ◌+◌, ℕ, zero, suc, Bool, true, false, not, List, [], ◌∷◌, ◌++◌, length, take, get_or, refl, sym, ◌∙◌, ap, subst, arith, inl, inr, append_assoc, append-nil, Some}
 use Rattle.std.specs.List.{All, Contains}
-use Rattle.std.proofs.lemmas.Bool.{and_from, cases_Bool, false_from_ne_true, or_cases, or_left, or_parts, or_right}
+use Rattle.std.proofs.lemmas.Bool.{and_from, false_from_ne_true, or_cases, or_left, or_right}
 use Rattle.std.proofs.lemmas.List.{get_or_default, map-append}
-use Rattle.std.proofs.lemmas.List.Elements.{All-contains, All-more, All-nil, All-push, All-weaker}
+use Rattle.std.proofs.lemmas.List.Elements.{All-more, All-nil, All-push, All-weaker}
 use Rattle.hrt_base.specs.declared.literal.Lit.{Lit}
 use Rattle.hrt_base.specs.declared.literal.Term.{Term}
-use Rattle.pb_rows.specs.Terms.{IsRisingFrom, PlainRow, opposite_lit, positive_part}
-use Rattle.pb_rows.specs.Closure.{Falsified, Keeps, Literals, Propagates, among, is_same_lit, nonfalse_sum}
+use Rattle.pb_rows.specs.Terms.{IsRisingFrom, PlainRow, opposite_lit}
+use Rattle.pb_rows.specs.Closure.{is_same_lit, nonfalse_sum}
 use Rattle.propagation.specs.Following.{IsOpenTerm, IsSettledAt}
 use Rattle.propagation.proofs.Following.{Within, nonfalse_sum-anti, settled-more}
 use Rattle.propagation.proofs.Sets.{lit_is, lit_itself}

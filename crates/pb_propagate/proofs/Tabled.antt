@@ -1,5 +1,5 @@
 -- What the tables of a trail keep.
-use Rattle.std.proofs.Common.{◌≡◌, ◌<◌, ◌≤◌, ◌+◌, ◌-◌, ◌^◌, ℕ, Bool, true, false, if◌then◌else◌, List, [], ◌∷◌, ◌++◌, length, length-set, length-append, replicate, take, refl, sym, ◌∙◌, ap, ap₂, subst, arith, inl, inr, append-nil, Option, Some, None, is_none}
+use Rattle.std.proofs.Common.{◌≡◌, ◌<◌, ◌≤◌, ◌+◌, ◌-◌, ◌^◌, ℕ, Bool, true, false, if◌then◌else◌, List, [], ◌∷◌, ◌++◌, length, length-set, length-append, replicate, refl, sym, ◌∙◌, ap, ap₂, subst, arith, inl, inr, append-nil, Option, Some, None, is_none}
 use Rattle.std.specs.Prelude.{vec_capacity}
 use Rattle.std.specs.declared.vec.Vec.{Vec}
 use Rattle.std.specs.List.{All}
@@ -17,10 +17,10 @@ use Rattle.propagation.specs.Tables.{AreConsistent, IsTable, value_for}
 use Rattle.propagation.proofs.Tables.{consistent, no_table, table-push}
 use Rattle.row_arena.specs.declared.arena.Place.{Place}
 use Rattle.pb_propagate.specs.declared.trail.Mark.{Mark}
-use Rattle.pb_propagate.specs.Entries.{Entry, IsNewlyFalse, is_decision, level_of, lits_of, set_of, up_to}
+use Rattle.pb_propagate.specs.Entries.{Entry, IsNewlyFalse, is_decision, level_of, set_of}
 use Rattle.pb_propagate.specs.Tables.{AreLevels, IsTrail, TrailState, entries_of, mark_of, number_of, starts_from}
 use Rattle.pb_propagate.specs.Rooms.{AreTables}
-use Rattle.pb_propagate.proofs.Levels.{AreReasoned, level-append}
+use Rattle.pb_propagate.proofs.Levels.{AreReasoned}
 use Rattle.pb_propagate.proofs.Starts.{starts-append, starts-length}
 use Rattle.pb_propagate.proofs.News.{new-kept, new-pushed}
 use Rattle.pb_propagate.proofs.Marks.{AgreeOn, agree-set, entries-agree, levels-append, levels-kept, lits-entries, mark-new}

@@ -1,7 +1,7 @@
 -- The trail, by its entries, oldest first. A decision opens a level; an entry with a reason stands at the level of the entry before
 -- it, at level 0 where no decision is before it.
-use Rattle.std.specs.Prelude.{◌≡◌, ◌+◌, ◌-◌, ◌<◌, ◌==◌, ℕ, Bool, true, false, if◌then◌else◌, IsTrue, IsFalse, List, [], ◌∷◌, ◌++◌, Option, Some, None, map, filter, is_none}
-use Rattle.std.specs.List.{All, list_any}
+use Rattle.std.specs.Prelude.{◌+◌, ◌-◌, ◌<◌, ◌==◌, ℕ, Bool, true, false, if◌then◌else◌, IsTrue, IsFalse, List, [], ◌∷◌, Option, Some, None, map, is_none}
+use Rattle.std.specs.List.{list_any}
 use Rattle.hrt_base.specs.declared.literal.Lit.{Lit}
 use Rattle.hrt_base.specs.declared.literal.Value.{Value}
 use Rattle.hrt_base.specs.declared.literal.Value.TheVariants.{False, Free, True}

@@ -1,5 +1,5 @@
 -- What holds of an engine at every moment.
-use Rattle.std.specs.Prelude.{◌≤◌, ℕ, IsTrue, IsFalse, List, [], length}
+use Rattle.std.specs.Prelude.{◌≤◌, IsTrue, IsFalse, [], length}
 use Rattle.std.specs.List.{All}
 use Rattle.pb_rows.specs.Terms.{opposite_lit}
 use Rattle.hrt_base.specs.declared.literal.Lit.{Lit}

@@ -8,7 +8,7 @@ use Rattle.pb_rows.specs.Closure.{Falsified, Keeps, Literals}
 use Rattle.propagation.specs.Following.{IsOpenTerm, IsSettledAt}
 use Rattle.row_arena.specs.Held.{Held, row_at}
 use Rattle.pb_propagate.specs.Entries.{Entry, level_of, lits_of, opposites, set_of, up_to}
-use Rattle.pb_propagate.specs.Open.{AreJustified, IsOpen, IsServed}
+use Rattle.pb_propagate.specs.Open.{AreJustified, IsOpen}
 use Rattle.pb_propagate.specs.Tables.{TrailState}
 use Rattle.pb_propagate.specs.Visits.{IsDueTo}
 

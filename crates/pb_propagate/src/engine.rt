@@ -1,5 +1,5 @@
 // The engine.
-ghost use Rattle.std.specs.Prelude.{◌≡◌, ◌≤◌, ◌<◌, ◌+◌, [], ◌∷◌, ◌++◌, IsTrue, IsFalse, IfNone, IfOk, IfSome, OnErr, if◌then◌else◌, length, nat_lt, None};
+ghost use Rattle.std.specs.Prelude.{◌≡◌, ◌==◌, ◌≤◌, ◌<◌, ◌+◌, [], ◌∷◌, ◌++◌, IsTrue, IsFalse, IfNone, IfOk, IfSome, OnErr, if◌then◌else◌, filter, length, nat_lt, not, slice_index_or, None};
 ghost use Rattle.pb_rows.specs.Terms.{opposite_lit};
 ghost use Rattle.pb_rows.specs.Points.{IsCovered};
 ghost use Rattle.pb_rows.specs.Rows.{IsShort};
@@ -8,19 +8,44 @@ ghost use Rattle.row_arena.specs.Held.{is_held, row_at};
 ghost use Rattle.pb_propagate.specs.Entries.{is_reason_in, level_in, level_of, lits_of, reason_in, set_of, up_to, value_in};
 ghost use Rattle.pb_propagate.specs.Engines.{AreKept, IsIdle, IsKeptBelow, IsLowestOpen, is_due_literal, is_due_row};
 ghost use Rattle.pb_propagate.specs.Moments.{IsInOrder, IsSound};
+ghost use Rattle.pb_propagate.specs.Parts.{AreDistinct};
 ghost use Rattle.pb_propagate.specs.Tables.{number_of};
 ghost use Rattle.pb_propagate.specs.Visits.{IsDue, VisitsLiteral, VisitsRow};
 
 use crate::scanning::scan;
 use crate::serving::{lowest_open, serve};
+use crate::standing::sweep;
 use crate::trail::Trail;
 use crate::visit::{Due, Visit};
 use hrt_base::{Lit, NoMemory, RowNo, Steps, Value};
+use level_sweep::Standing;
 use pb_rows::Row;
 use row_arena::{Arena, Place};
 use std::alloc::Global;
+use std::cell::RefCell;
 use std::marker::Model;
 use std::sync::ledger::Ledger;
+
+/// Tells whether a place stands at a place of a list.
+fn stands_at(places: &[Place], k: usize, place: Place) -> bool
+    requires { k < length places.now }
+    ensures { result ≡ ((slice_index_or places.now k place).0 == place.0) }
+{
+    places[k].0 == place.0
+}
+
+/// Takes a place from a list in which none stands twice. It looks at the last one alone where that is the place.
+fn take_off(places: &mut Vec<Place>, place: Place)
+    requires { AreDistinct places.old.items }
+    ensures { places.new.items ≡ filter (λ p. not (place.0 == p.0)) places.old.items }
+{
+    let count = places.len();
+    if count > 0 && stands_at(places, count - 1, place) {
+        places.truncate(count - 1);
+        return;
+    }
+    places.retain(|p| place.0 != p.0);
+}
 
 /// Held rows, a trail of literals that were decided or that those rows propagated, and what is still to be visited. It is seen as the
 /// number of variables, the held rows, the trail, and the due rows and literals.
@@ -30,6 +55,7 @@ pub struct Engine {
     places: Vec<Place>,
     trail: Trail,
     due_rows: Vec<Place>,
+    room: RefCell<Vec<Standing>>,
 }
 
 impl Model for Engine {
@@ -46,6 +72,7 @@ impl Model for Engine {
 
 impl Engine {
     /// No rows, and nothing true, over the variables 1 to `vars`.
+    #[tactic(auto, using(crate::proofs::DueRows::distinct_none))]
     pub fn new(alloc: Global, vars: u32) -> Result<Engine, NoMemory>
         ensures { IfOk result (λ e. e ≡ record { vars = vars; held = []; trail = []; due_rows = []; due_literals = [] }) }
     {
@@ -54,6 +81,7 @@ impl Engine {
             places: Vec::new(alloc),
             trail: Trail::new(alloc, vars)?,
             due_rows: Vec::new(alloc),
+            room: RefCell::new(Vec::new(alloc)),
         })
     }
 
@@ -67,6 +95,9 @@ impl Engine {
     {
         self.places.reserve(1)?;
         self.due_rows.reserve(1)?;
+        let room = self.room.get_mut();
+        room.clear();
+        room.reserve(row.terms().len())?;
         let place = self.arena.push(alloc, row, tag)?;
         self.places.push_reserved(place);
         self.due_rows.push_reserved(place);
@@ -85,7 +116,13 @@ impl Engine {
         requires { IsTrue (is_held place.0 self.now.held) }
         ensures { IsLowestOpen self.now (row_at place.0 self.now.held) result }
     {
-        lowest_open(&self.arena, place, &self.trail)
+        let Ok(mut room) = self.room.try_borrow_mut() else {
+            return lowest_open(&self.arena, place, &self.trail);
+        };
+        if room.capacity() < self.arena.len(place) {
+            return lowest_open(&self.arena, place, &self.trail);
+        }
+        sweep(&self.arena, place, &self.trail, &mut room)
     }
 
     /// Opens a level with a free literal, while nothing is due.
@@ -127,7 +164,7 @@ impl Engine {
         if serve(&self.arena, place, &mut self.trail) {
             return Visit::Falsified(place);
         }
-        self.due_rows.retain(|p| place.0 != p.0);
+        take_off(&mut self.due_rows, place);
         Visit::Done
     }
 

@@ -14,7 +14,7 @@ use propagation::opposite;
 use row_arena::{Arena, Place};
 
 /// The coefficient of a term.
-fn weight_of(t: Term) -> u128
+pub fn weight_of(t: Term) -> u128
     requires { IsPositive t.coef }
     ensures value { result ≡ positive_part t.coef }
     ensures positive { 0 < result }
@@ -24,7 +24,7 @@ fn weight_of(t: Term) -> u128
 }
 
 /// The degree of a row.
-fn degree_of(arena: &Arena, place: Place) -> u128
+pub fn degree_of(arena: &Arena, place: Place) -> u128
     requires { IsTrue (is_held place.0 arena.now.held) }
     ensures { result ≡ (row_at place.0 arena.now.held).degree }
 {

@@ -1,5 +1,5 @@
 // The trail: the true literals, their levels and reasons, and the literals that became false and are due.
-ghost use Rattle.std.specs.Prelude.{◌≡◌, ◌≤◌, ◌<◌, ◌+◌, [], ◌∷◌, ◌++◌, Some, None, IfOk, IsFalse, if◌then◌else◌, length, nat_lt, is_none, not, take, vec_len, vec_capacity};
+ghost use Rattle.std.specs.Prelude.{◌≡◌, ◌≤◌, ◌<◌, ◌+◌, [], ◌∷◌, ◌++◌, Some, None, IfOk, IfSome, IsFalse, if◌then◌else◌, length, nat_lt, is_none, not, take, vec_len, vec_capacity};
 ghost use Rattle.std.specs.List.{All, list_any};
 ghost use Rattle.std.specs.Option.{option_map};
 ghost use Rattle.hrt_base.specs.declared.literal.Value.TheVariants.{Free};
@@ -155,7 +155,8 @@ impl Trail {
     /// The level at which a literal became true, or none where it isn't true.
     pub fn true_level(&self, lit: Lit) -> Option<u32>
         requires { IsCovered self.now.vars lit.var }
-        ensures { IsTrueFrom self.now.entries lit result }
+        ensures from { IsTrueFrom self.now.entries lit result }
+        ensures alone { IfSome result (λ _. IsFalse (set_of self.now.entries (opposite_lit lit))) }
     {
         if self.is_true(lit) {
             Some(self.marks[(lit.var - 1) as usize].level)

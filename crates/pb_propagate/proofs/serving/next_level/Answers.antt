@@ -16,7 +16,7 @@ loop-k-preserved c =
     let ts = (row_at c.args.place.0 c.args.arena.now.held).terms in
     let within : c.loop-k.k < length ts = omega (arith, c.loop-k-test.true, c.len-k-end.ensures.value) in
     let lit = c.opposite.ensures ∙ ap (λ (t : Term). opposite_lit t.lit) c.term.ensures in
-    let from = subst (λ (l : Lit). IsTrueFrom c.args.trail.now.entries l c.true_level-from.result) lit c.true_level-from.ensures in
+    let from = subst (λ (l : Lit). IsTrueFrom c.args.trail.now.entries l c.true_level-from.result) lit c.true_level-from.ensures.from in
     next-step c.args.trail.now.entries ts c.loop-k.k c.term.result c.args.level within _ _ _ c.loop-k.invariant from c.nearer-next.ensures
 
 pub returns : goal.returns

@@ -1,4 +1,4 @@
-use Rattle.std.proofs.Common.{◌≡◌, ◌∙◌, ap, ap₂, length, subst, sym, ℕ, Bool, List}
+use Rattle.std.proofs.Common.{◌∙◌, ap, ap₂, length, subst, sym, ℕ, Bool, List}
 use Rattle.std.specs.List.{All, list_any}
 use Rattle.hrt_base.specs.declared.literal.Lit.{Lit}
 use Rattle.pb_rows.specs.Points.{IsCovered}

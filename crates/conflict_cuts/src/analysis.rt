@@ -28,7 +28,7 @@ fn has_room(next: u64, vars: u32) -> bool
     next <= MOST - (u64::from(vars) + 1)
 }
 
-/// Learns from a row of the engine that is falsified: the last of its clauses, or that it holds nowhere with the others. Each clause is
+/// Learns from a row of the engine that is falsified: the last of its clauses, or a row that holds nowhere. Each clause is
 /// made by one line of the proof, and those that aren't learned are deleted. It takes time in proportion to the trail and to the lengths of
 /// the rows that it meets. Want of memory comes also where a row would get a number of 19 digits.
 pub fn analyze(

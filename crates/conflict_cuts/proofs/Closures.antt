@@ -1,17 +1,16 @@
 -- The trail of an engine as a closure.
-use Rattle.std.proofs.Common.{◌≡◌, ◌<◌, ◌≤◌, ◌+◌, ℕ, Bool, true, false, not, List, [], ◌∷◌, ◌++◌, length, get_or, refl, sym, ◌∙◌, ap, subst, arith, inl, inr}
-use Rattle.std.specs.List.{All, Contains}
-use Rattle.std.proofs.lemmas.Bool.{cases_lt, false_from_ne_true}
-use Rattle.std.proofs.lemmas.List.Elements.{All-map, All-contains}
+use Rattle.std.proofs.Common.{◌≡◌, ℕ, true, false, List, [], sym, ◌∙◌, subst, arith}
+use Rattle.std.specs.List.{All}
+use Rattle.std.proofs.lemmas.Bool.{false_from_ne_true}
+use Rattle.std.proofs.lemmas.List.Elements.{All-map}
 use Rattle.hrt_base.specs.declared.literal.Lit.{Lit}
 use Rattle.pb_rows.specs.Terms.{PlainRow, opposite_lit}
-use Rattle.pb_rows.specs.Closure.{Falsified, IsClosure, IsQuiet, Keeps, Literals, Refuted, among, nonfalse_sum}
+use Rattle.pb_rows.specs.Closure.{Falsified, IsQuiet, Keeps, Literals, among, nonfalse_sum}
 use Rattle.propagation.specs.Following.{Follows}
-use Rattle.propagation.specs.Tables.{AreConsistent}
 use Rattle.propagation.proofs.Following.{follows-falsified}
 use Rattle.row_arena.specs.Held.{Held, held_rows, is_held, row_at}
 use Rattle.row_arena.proofs.Places.{row_at-contained}
-use Rattle.pb_propagate.specs.Entries.{Entry, decisions_of, level_of, lits_of, set_of, up_to}
+use Rattle.pb_propagate.specs.Entries.{Entry, decisions_of, level_of, set_of, up_to}
 use Rattle.pb_propagate.specs.Open.{AreJustified}
 use Rattle.pb_propagate.specs.Engines.{EngineState, decisions_at, set_at}
 use Rattle.pb_propagate.specs.Moments.{IsInOrder, IsSound}

@@ -1,5 +1,5 @@
 -- Exact propagation: what follows from the held rows and the decisions stands on the trail, and nothing else.
-use Rattle.std.specs.Prelude.{◌≡◌, ◌≤◌, ◌<◌, ℕ, true, IsTrue, IsFalse, List, ◌++◌}
+use Rattle.std.specs.Prelude.{◌≡◌, ◌<◌, ℕ, IsTrue, IsFalse, List, ◌++◌}
 use Rattle.std.specs.List.{All}
 use Rattle.pb_rows.specs.Closure.{Falsified, IsClosure, Refuted, among}
 use Rattle.row_arena.specs.Held.{held_rows, is_held, row_at}

@@ -20,7 +20,6 @@ use Rattle.std.specs.declared.vec.Vec.{Vec}
 use Rattle.rup_engine.proofs.Occurrences.{in_use-at, part-elsewhere}
 use Rattle.rup_engine.specs.Slots.{HasNumber, IsOverSlot, IsShort, IsShortSlot, IsSteadySlot, Slots, entries_of, entry_of, slot_at, terms_of}
 use Rattle.rup_engine.specs.Store.{AreAdded, AreNamed, IsSlotOf, coef_for, in_use, is_one_of, list_at, place_of, weight_on}
-use Rattle.rup_engine.proofs.Counting.{nonfalse_sum-none}
 use Rattle.rup_engine.proofs.Rounds.{row-at}
 
 short-at : (slots : Slots) → All IsShortSlot slots → (j : ℕ) → IsShortSlot (slot_at slots j)
@@ -30,7 +29,7 @@ over-at : (vars : ℕ) (slots : Slots) → All (IsOverSlot vars) slots → (j : 
 over-at vars slots a j = elim (cases_lt j (length slots)) [ inl h ↦ a j None h | inr h ↦ rw (get_or_past slots j None h) tt ]
 
 -- what changes where one slot does
-pub record ChangesSlot (vars : ℕ) (old new : Store) (before after : List ℕ) (k : ℕ) (o : Option Slot) : Type 0 where
+pub record ChangesSlot (vars : ℕ) (old new : Store) (before after : List ℕ) (literals : List Lit) (k : ℕ) (o : Option Slot) : Type 0 where
   pub longer : length old.slots.items ≤ length new.slots.items
   pub others : (j : ℕ) → j ≢ k → slot_at new.slots.items j ≡ slot_at old.slots.items j
   pub here : slot_at new.slots.items k ≡ o
@@ -48,10 +47,10 @@ pub record ChangesSlot (vars : ℕ) (old new : Store) (before after : List ℕ) 
   pub tight_here : IsFalse (is_one_of k new.tight.items) → IsSteadySlot none (coef_sum (terms_of o)) o
   pub tight_within : All (λ j. j < length new.slots.items) new.tight.items
   pub sums_others : (j : ℕ) → j ≢ k → get_or after j 0 ≡ get_or before j 0
-  pub sums_here : get_or after k 0 ≡ coef_sum (terms_of o)
+  pub sums_here : get_or after k 0 ≡ nonfalse_sum (among literals) (terms_of o)
   pub room : length new.slots.items ≤ length after
 
-module _ (vars : ℕ) (old new : Store) (before after : List ℕ) (k : ℕ) (o : Option Slot) (ready : IsReady vars old before) (c : ChangesSlot vars old new before after k o) where
+module _ (vars : ℕ) (old new : Store) (before after : List ℕ) (literals : List Lit) (k : ℕ) (o : Option Slot) (ready : IsReady vars old before literals) (c : ChangesSlot vars old new before after literals k o) where
   by_slot : (P : ℕ → Option Slot → Type 0) → P k o → ((j : ℕ) → j ≢ k → P j (slot_at old.slots.items j)) → (j : ℕ) → P j (slot_at new.slots.items j)
   by_slot P here others j = elim (cases_eq j k) [
     | inl e ↦ subst (λ (i : ℕ). P i (slot_at new.slots.items i)) (sym e) (subst (P k) (sym c.here) here)
@@ -80,10 +79,10 @@ module _ (vars : ℕ) (old new : Store) (before after : List ℕ) (k : ℕ) (o :
   tight' : (j : ℕ) → IsFalse (is_one_of j new.tight.items) → IsSteadySlot none (coef_sum (terms_of (slot_at new.slots.items j))) (slot_at new.slots.items j)
   tight' j = by_slot (λ j o. IsFalse (is_one_of j new.tight.items) → IsSteadySlot none (coef_sum (terms_of o)) o) c.tight_here (λ j ne out. ready.kept.tight.others j (c.tight_others j ne out)) j
 
-  counted' : (j : ℕ) → get_or after j 0 ≡ nonfalse_sum (among []) (terms_of (slot_at new.slots.items j))
-  counted' j = by_slot (λ j o. get_or after j 0 ≡ nonfalse_sum (among []) (terms_of o)) (c.sums_here ∙ sym (nonfalse_sum-none (terms_of o))) (λ j ne. c.sums_others j ne ∙ ready.counted.count j) j
+  counted' : (j : ℕ) → get_or after j 0 ≡ nonfalse_sum (among literals) (terms_of (slot_at new.slots.items j))
+  counted' j = by_slot (λ j o. get_or after j 0 ≡ nonfalse_sum (among literals) (terms_of o)) c.sums_here (λ j ne. c.sums_others j ne ∙ ready.counted.count j) j
 
-  pub changed : IsReady vars new after
+  pub changed : IsReady vars new after literals
   changed = record {
     kept = record {
       slots = record {
@@ -229,18 +228,18 @@ without-absent n (Some s ∷ slots) h =
 
 -- ---- the changes
 
-module _ (vars : ℕ) (old new : Store) (before after : List ℕ) (ready : IsReady vars old before) where
+module _ (vars : ℕ) (old new : Store) (before after : List ℕ) (literals : List Lit) (ready : IsReady vars old before literals) where
   weaken_within : (n : ℕ) → length old.slots.items ≤ n → (os : List Occurrence) → All (λ (o : Occurrence). o.slot < length old.slots.items) os → All (λ (o : Occurrence). o.slot < n) os
   weaken_within n le os a = All-weaker (λ (o : Occurrence). o.slot < length old.slots.items) (λ (o : Occurrence). o.slot < n) (λ o h. omega arith) os a
 
-  pub opened : new.slots.items ≡ old.slots.items ++ None ∷ [] → new.lists.items ≡ old.lists.items → new.tight.items ≡ old.tight.items → new.numbers ≡ old.numbers → new.stale ≡ old.stale → after ≡ before ++ 0 ∷ [] → IsReady vars new after
+  pub opened : new.slots.items ≡ old.slots.items ++ None ∷ [] → new.lists.items ≡ old.lists.items → new.tight.items ≡ old.tight.items → new.numbers ≡ old.numbers → new.stale ≡ old.stale → after ≡ before ++ 0 ∷ [] → IsReady vars new after literals
   opened slots lists tight numbers stale sums =
       let k : ℕ = length old.slots.items in
       let longer : length new.slots.items ≡ length old.slots.items + 1 = ap length slots ∙ length_push old.slots.items None in
       let same : (j : ℕ) → slot_at new.slots.items j ≡ slot_at old.slots.items j = λ j. ap (λ (x : Slots). slot_at x j) slots ∙ slot_at-more old.slots.items j in
       let empty : slot_at old.slots.items k ≡ None = get_or_past old.slots.items k None (omega arith) in
       let sum : (j : ℕ) → get_or after j 0 ≡ get_or before j 0 = λ j. ap (λ (x : List ℕ). get_or x j 0) sums ∙ sum-more before j in
-      changed vars old new before after k None ready (record {
+      changed vars old new before after literals k None ready (record {
         longer = omega (arith, longer);
         others = λ j ne. same j;
         here = same k ∙ empty;
@@ -258,18 +257,18 @@ module _ (vars : ℕ) (old new : Store) (before after : List ℕ) (ready : IsRea
         tight_here = λ out. tt;
         tight_within = rw tight (All-weaker (λ (j : ℕ). j < length old.slots.items) (λ (j : ℕ). j < length new.slots.items) (λ j h. omega (arith, longer)) old.tight.items ready.kept.tight.within);
         sums_others = λ j ne. sum j;
-        sums_here = sum k ∙ ready.counted.count k ∙ ap (λ (o : Option Slot). nonfalse_sum (among []) (terms_of o)) empty;
+        sums_here = sum k ∙ ready.counted.count k ∙ ap (λ (o : Option Slot). nonfalse_sum (among literals) (terms_of o)) empty;
         room = omega (arith, longer, ap length sums, length_push before 0, ready.counted.room);
       })
 
   pub filled : (k : ℕ) (s : Slot) → k < length old.slots.items → slot_at old.slots.items k ≡ None → ((p : ℕ) → All (λ (o : Occurrence). o.slot < k) (list_at old.lists.items p)) → is_numbered s.number.0 (entries_of old.slots.items) ≡ false → IsOver vars s.row → IsShort s.heads.items s.rest s.bound s.row
       → coef_sum s.row.terms ≤ 2 ^ 120 → new.slots.items ≡ set old.slots.items k (Some s) → IsListedAt k s.row old.lists.items new.lists.items new.tight.items
-      → NotesAtMost k old.tight.items new.tight.items → Renames old.numbers new.numbers s.number.0 (Some k) → new.stale ≡ old.stale → after ≡ set before k (coef_sum s.row.terms) → IsReady vars new after
+      → NotesAtMost k old.tight.items new.tight.items → Renames old.numbers new.numbers s.number.0 (Some k) → new.stale ≡ old.stale → after ≡ set before k (nonfalse_sum (among literals) s.row.terms) → IsReady vars new after literals
   filled k s h empty bare fresh over short fits slots listed notes renames stale sums =
       let count : length new.slots.items ≡ length old.slots.items = ap length slots ∙ length-set old.slots.items k (Some s) in
       let others : (j : ℕ) → j ≢ k → slot_at new.slots.items j ≡ slot_at old.slots.items j = λ j ne. ap (λ (x : Slots). slot_at x j) slots ∙ get_or-set_other old.slots.items k j (Some s) None ne in
       let here : slot_at new.slots.items k ≡ Some s = ap (λ (x : Slots). slot_at x k) slots ∙ get_or-set_same old.slots.items k (Some s) None h in
-      changed vars old new before after k (Some s) ready (record {
+      changed vars old new before after literals k (Some s) ready (record {
         longer = omega (arith, count);
         others = others;
         here = here;
@@ -290,16 +289,16 @@ module _ (vars : ℕ) (old new : Store) (before after : List ℕ) (ready : IsRea
         tight_here = listed.steady;
         tight_within = notes.within (length new.slots.items) (omega (arith, count, h))
             (All-weaker (λ (j : ℕ). j < length old.slots.items) (λ (j : ℕ). j < length new.slots.items) (λ j h. omega (arith, count)) old.tight.items ready.kept.tight.within);
-        sums_others = λ j ne. ap (λ (x : List ℕ). get_or x j 0) sums ∙ get_or-set_other before k j (coef_sum s.row.terms) 0 ne;
-        sums_here = ap (λ (x : List ℕ). get_or x k 0) sums ∙ get_or-set_same before k (coef_sum s.row.terms) 0 (omega (arith, h, ready.counted.room));
-        room = omega (arith, count, ap length sums, length-set before k (coef_sum s.row.terms), ready.counted.room);
+        sums_others = λ j ne. ap (λ (x : List ℕ). get_or x j 0) sums ∙ get_or-set_other before k j (nonfalse_sum (among literals) s.row.terms) 0 ne;
+        sums_here = ap (λ (x : List ℕ). get_or x k 0) sums ∙ get_or-set_same before k (nonfalse_sum (among literals) s.row.terms) 0 (omega (arith, h, ready.counted.room));
+        room = omega (arith, count, ap length sums, length-set before k (nonfalse_sum (among literals) s.row.terms), ready.counted.room);
       })
 
   pub restored : (k : ℕ) → k < length old.slots.items → slot_at old.slots.items k ≡ None → new.slots.items ≡ old.slots.items → AreAdded k old.lists.items new.lists.items
-      → new.tight.items ≡ old.tight.items → (n : ℕ) → is_numbered n (entries_of old.slots.items) ≡ false → Renames old.numbers new.numbers n None → new.stale ≡ old.stale → after ≡ before → IsReady vars new after
+      → new.tight.items ≡ old.tight.items → (n : ℕ) → is_numbered n (entries_of old.slots.items) ≡ false → Renames old.numbers new.numbers n None → new.stale ≡ old.stale → after ≡ before → IsReady vars new after literals
   restored k h empty slots added tight n fresh renames stale sums =
       let count : length new.slots.items ≡ length old.slots.items = ap length slots in
-      changed vars old new before after k None ready (record {
+      changed vars old new before after literals k None ready (record {
         longer = omega (arith, count);
         others = λ j ne. ap (λ (x : Slots). slot_at x j) slots;
         here = ap (λ (x : Slots). slot_at x k) slots ∙ empty;
@@ -317,18 +316,18 @@ module _ (vars : ℕ) (old new : Store) (before after : List ℕ) (ready : IsRea
         tight_here = λ out. tt;
         tight_within = rw (tight, count) ready.kept.tight.within;
         sums_others = λ j ne. ap (λ (x : List ℕ). get_or x j 0) sums;
-        sums_here = ap (λ (x : List ℕ). get_or x k 0) sums ∙ ready.counted.count k ∙ ap (λ (o : Option Slot). nonfalse_sum (among []) (terms_of o)) empty;
+        sums_here = ap (λ (x : List ℕ). get_or x k 0) sums ∙ ready.counted.count k ∙ ap (λ (o : Option Slot). nonfalse_sum (among literals) (terms_of o)) empty;
         room = omega (arith, count, ap length sums, ready.counted.room);
       })
 
   pub removed : (k : ℕ) (s : Slot) → k < length old.slots.items → slot_at old.slots.items k ≡ Some s → new.slots.items ≡ set old.slots.items k None → new.lists.items ≡ old.lists.items
-      → new.tight.items ≡ old.tight.items → Renames old.numbers new.numbers s.number.0 None → new.stale ≡ old.stale → after ≡ set before k 0 → IsReady vars new after
+      → new.tight.items ≡ old.tight.items → Renames old.numbers new.numbers s.number.0 None → new.stale ≡ old.stale → after ≡ set before k 0 → IsReady vars new after literals
   removed k s h at slots lists tight renames stale sums =
       let count : length new.slots.items ≡ length old.slots.items = ap length slots ∙ length-set old.slots.items k None in
       let others : (j : ℕ) → j ≢ k → slot_at new.slots.items j ≡ slot_at old.slots.items j = λ j ne. ap (λ (x : Slots). slot_at x j) slots ∙ get_or-set_other old.slots.items k j None None ne in
       let here : slot_at new.slots.items k ≡ None = ap (λ (x : Slots). slot_at x k) slots ∙ get_or-set_same old.slots.items k None None h in
       let has : HasNumber s.number.0 (slot_at old.slots.items k) = subst (HasNumber s.number.0) (sym at) refl in
-      changed vars old new before after k None ready (record {
+      changed vars old new before after literals k None ready (record {
         longer = omega (arith, count);
         others = others;
         here = here;
@@ -351,8 +350,8 @@ module _ (vars : ℕ) (old new : Store) (before after : List ℕ) (ready : IsRea
       })
 
 -- what is left of removed rows may go
-pub thinner-ready : (vars : ℕ) (old new : Store) (sums : List ℕ) → IsReady vars old sums → IsThinner old new → IsReady vars new sums
-thinner-ready vars old new sums ready t = record {
+pub thinner-ready : (vars : ℕ) (old new : Store) (sums : List ℕ) (literals : List Lit) → IsReady vars old sums literals → IsThinner old new → IsReady vars new sums literals
+thinner-ready vars old new sums literals ready t = record {
   kept = record {
     slots = rw t.slots ready.kept.slots;
     named = rw (t.slots, t.numbers) ready.kept.named;

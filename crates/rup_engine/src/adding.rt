@@ -12,6 +12,7 @@ ghost use Rattle.rup_engine.specs.Adding.{IsListedAt, IsReady, NotesAtMost};
 ghost use Rattle.rup_engine.specs.Store.{AreAdded, AreNamed, is_one_of, list_at, place_of};
 
 use crate::lists::enter;
+use crate::one_row::nonfalse_total;
 use crate::opposite::total;
 use crate::progress::Progress;
 use crate::store::{Slot, Store};
@@ -70,8 +71,8 @@ fn note_tight(tight: &mut Vec<usize>, place: usize, slot: &Slot) -> Result<(), N
 
 /// Makes an empty slot at the end, and answers its place.
 fn open_slot(store: &mut Store, progress: &mut Progress) -> Result<usize, NoMemory>
-    requires { IsReady progress.old.trail.vars store.old progress.old.sums.items }
-    ensures ready { IsReady progress.old.trail.vars store.new progress.new.sums.items }
+    requires { IsReady progress.old.trail.vars store.old progress.old.sums.items progress.old.trail.literals }
+    ensures ready { IsReady progress.old.trail.vars store.new progress.new.sums.items progress.old.trail.literals }
     ensures trail { progress.new.trail ≡ progress.old.trail }
     ensures done { progress.new.done ≡ progress.old.done }
     ensures entries { entries_of store.new.slots.items ≡ entries_of store.old.slots.items }
@@ -109,14 +110,14 @@ fn fill_slot(
     place: usize,
     slot: Slot,
 ) -> Result<(), NoMemory>
-    requires ready { IsReady progress.old.trail.vars store.old progress.old.sums.items }
+    requires ready { IsReady progress.old.trail.vars store.old progress.old.sums.items progress.old.trail.literals }
     requires place { place + 1 ≡ length store.old.slots.items }
     requires empty { slot_at store.old.slots.items place ≡ None }
     requires bare { (p : ℕ) → All (λ o. o.slot < place) (list_at store.old.lists.items p) }
     requires fresh { IsFalse (is_numbered slot.number.0 (entries_of store.old.slots.items)) }
     requires over { IsOver progress.old.trail.vars slot.row }
     requires short { IsShort slot.heads.items slot.rest slot.bound slot.row }
-    ensures ready { IsReady progress.old.trail.vars store.new progress.new.sums.items }
+    ensures ready { IsReady progress.old.trail.vars store.new progress.new.sums.items progress.old.trail.literals }
     ensures trail { progress.new.trail ≡ progress.old.trail }
     ensures done { progress.new.done ≡ progress.old.done }
     ensures ok { OnOk result (entries_of store.new.slots.items ≡ entries_of store.old.slots.items ++ entry_of slot ∷ []) }
@@ -132,18 +133,18 @@ fn fill_slot(
         }
     }
     let terms = slot.row.terms();
-    progress.sums[place] = total(terms);
+    progress.sums[place] = nonfalse_total(terms, &progress.trail);
     store.slots[place] = Some(slot);
     Ok(())
 }
 
 /// Adds a row.
 pub fn add_row(store: &mut Store, progress: &mut Progress, slot: Slot) -> Result<(), NoMemory>
-    requires ready { IsReady progress.old.trail.vars store.old progress.old.sums.items }
+    requires ready { IsReady progress.old.trail.vars store.old progress.old.sums.items progress.old.trail.literals }
     requires fresh { IsFalse (is_numbered slot.number.0 (entries_of store.old.slots.items)) }
     requires over { IsOver progress.old.trail.vars slot.row }
     requires short { IsShort slot.heads.items slot.rest slot.bound slot.row }
-    ensures ready { IsReady progress.old.trail.vars store.new progress.new.sums.items }
+    ensures ready { IsReady progress.old.trail.vars store.new progress.new.sums.items progress.old.trail.literals }
     ensures trail { progress.new.trail ≡ progress.old.trail }
     ensures done { progress.new.done ≡ progress.old.done }
     ensures ok { OnOk result (entries_of store.new.slots.items ≡ entries_of store.old.slots.items ++ entry_of slot ∷ []) }
@@ -158,10 +159,10 @@ pub fn add_row(store: &mut Store, progress: &mut Progress, slot: Slot) -> Result
 
 /// Removes the row of a slot, which has the number. It takes time for each term, and on the whole for no other row.
 pub fn remove_row(store: &mut Store, progress: &mut Progress, place: usize, id: RowNo)
-    requires ready { IsReady progress.old.trail.vars store.old progress.old.sums.items }
+    requires ready { IsReady progress.old.trail.vars store.old progress.old.sums.items progress.old.trail.literals }
     requires place { place < length store.old.slots.items }
     requires has { HasNumber id.0 (slot_at store.old.slots.items place) }
-    ensures ready { IsReady progress.old.trail.vars store.new progress.new.sums.items }
+    ensures ready { IsReady progress.old.trail.vars store.new progress.new.sums.items progress.old.trail.literals }
     ensures trail { progress.new.trail ≡ progress.old.trail }
     ensures done { progress.new.done ≡ progress.old.done }
     ensures entries { entries_of store.new.slots.items ≡ without id.0 (entries_of store.old.slots.items) }

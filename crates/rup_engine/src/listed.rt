@@ -119,7 +119,7 @@ impl Listed {
         ensures live { self.new ≡ self.old }
     {
         let answer = close(alloc, &self.store, &mut self.progress, given, out);
-        undo(&self.store, &mut self.progress);
+        undo(&self.store, &mut self.progress, 0);
         answer
     }
 
@@ -135,7 +135,7 @@ impl Listed {
         let opposite = Opposite::of(alloc, row)?;
         let mut rows = Vec::new(alloc);
         let answer = contradicts(&self.store, &opposite, &mut self.progress, &mut rows);
-        undo(&self.store, &mut self.progress);
+        undo(&self.store, &mut self.progress, 0);
         if answer? {
             return Ok(Some(Used { rows }));
         }

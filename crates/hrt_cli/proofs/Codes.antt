@@ -1,6 +1,6 @@
 -- What the end of a run says of the code that it answers.
 use Rattle.std.specs.Prelude.{is_some}
-use Rattle.std.proofs.Common.{◌≡◌, ◌⊎◌, ℕ, zero, suc, Bool, true, false, ◌==◌, ◌||◌, bytes_eq, List, [], ◌∷◌, take, Option, Some, None, Result, Ok, Err, length, refl, sym, ◌∙◌, ap, inl, inr, option_map, cond, subst}
+use Rattle.std.proofs.Common.{IsTrue, ◌≡◌, ◌⊎◌, ℕ, zero, suc, Bool, true, false, ◌==◌, ◌||◌, bytes_eq, List, [], ◌∷◌, take, Option, Some, None, Result, Ok, Err, length, refl, sym, ◌∙◌, ap, inl, inr, option_map, cond, subst}
 use Rattle.hrt_base.specs.declared.port.Port.{Port}
 use Rattle.hrt_base.specs.declared.port.Port.TheVariants.{Report}
 use Rattle.hrt_base.specs.declared.host.Begun.TheVariants.{Writing}
@@ -21,7 +21,7 @@ use Rattle.hrt_cli.specs.Reports.{IsReport}
 use Rattle.hrt_cli.specs.Requests.{Request, solve}
 use Rattle.hrt_cli.specs.Runs.{EndsAs, IsDecided, IsDue, IsReported, Reported, KeepsFiles, KeepsOtherFiles, PrintsBest, has_report, is_code_of, keeps_files}
 use Rattle.hrt_cli.specs.Statuses.{code_of, status_of}
-use Rattle.hrt_cli.specs.Plans.{Files, Named, is_named, plan_of}
+use Rattle.hrt_cli.specs.Plans.{Files, Named, is_determined, is_named, plan_of}
 use Rattle.hrt_cli.specs.Verdicts.{ComesTo, Verdict, misused, rejected, solved, audited, modeled, verified, checked, bounded, matched, due as due_for, solve_verdict}
 use Rattle.hrt_cli.proofs.NamedOutputs.{not_stored}
 use Rattle.hrt_cli.proofs.OneVerdict.{one_told, some_is}
@@ -138,7 +138,7 @@ due_reported request status old new told_of verdict is =
     (ap code_of (told_of.answered ∙ alike.status), alike.report (new.content.sent Report) told_of.report)
 
 pub due : (told : Type 0) (request : Option Request) (status : Status) (old new : World) → EndsAs told request status old new → told → IsDue request (code_of status) old new
-due told request status old new ends t verdict is has = due_reported request status old new ((reported told request status old new ends has).reported t) verdict is
+due told request status old new ends t determined verdict is has = due_reported request status old new ((reported told request status old new ends has).reported t) verdict is
 
 pub closed : (told : Type 0) (request : Option Request) (status : Status) (old new : World) → EndsAs told request status old new → has_report (code_of status) ≡ true
     → (port : Port) → new.begun port ≡ Writing → ⊥
@@ -163,9 +163,9 @@ reported_or told request Bounded old new ends unread unwritten = inl ends
 reported_or told request PairsRefused old new ends unread unwritten = inl ends
 
 pub complete : (told : Type 0) (request : Option Request) (status : Status) (old new : World) → EndsAs told request status old new → told
-    → (Rose old.read_faults new.read_faults → ⊥) → (Rose old.write_faults new.write_faults → ⊥) → (verdict : Verdict) → ComesTo request old.content.file verdict
+    → IsTrue (is_determined (plan_of request).job) → (Rose old.read_faults new.read_faults → ⊥) → (Rose old.write_faults new.write_faults → ⊥) → (verdict : Verdict) → ComesTo request old.content.file verdict
     → (code_of status ≡ code_of (status_of verdict)) ⊎ (code_of status ≡ 6)
-complete told request status old new ends t unread unwritten verdict is = elim (reported_or told request status old new ends unread unwritten) [
+complete told request status old new ends t determined unread unwritten verdict is = elim (reported_or told request status old new ends unread unwritten) [
   | inl told_of ↦ inl (due_reported request status old new (told_of.reported t) verdict is).0
   | inr e ↦ inr e
 ]

@@ -82,6 +82,18 @@ pub data Job : Type 0 where
   bound : Job
   quick : Job
 
+-- What the job comes to is told alike, however it is done: its words and files determine its status and its report, or of which
+-- matchings the report is.
+abbrev pub is_determined : Job → Bool
+is_determined explain = true
+is_determined solve = true
+is_determined audit = true
+is_determined model = true
+is_determined verify = true
+is_determined check = true
+is_determined bound = true
+is_determined quick = true
+
 -- the job prints a matching that may be shorter than the ceiling
 abbrev pub may_end_open : Job → Bool
 may_end_open quick = true

@@ -11,6 +11,7 @@ use Rattle.hrt_cli.specs.declared.status.Status.{Status}
 use Rattle.hrt_cli.specs.declared.status.Status.TheVariants.{Done, Misused, InstanceRefused, ReadFault, WriteFault, NoMemory, LimitExceeded, ProofRefused, AuditNo, Bounded, PairsRefused}
 use Rattle.hrt_cli.specs.Answers.{CutShort, IsReadOut, LeavesFronts, ReadFailed, audits_pairs, is_verdict_of, judges_proof, may_be_open, reads_instance}
 use Rattle.hrt_cli.specs.Outputs.{SendsAll, is_output_name, outputs_of}
+use Rattle.hrt_cli.specs.Plans.{is_determined, plan_of}
 use Rattle.hrt_cli.specs.Reports.{IsReport, audit_report, bound_report, check_report, count_line, line, match_lines, model_report, sizes_report, solve_report}
 use Rattle.hrt_cli.specs.Requests as ask
 use Rattle.hrt_cli.specs.Requests.{Request}
@@ -97,17 +98,17 @@ pub record IsDecided (request : Option Request) (n : ℕ) (old new : World) : Ty
   pub code : n ≡ code_of status
   pub reported : IsReported request status old new
 
--- The code and the report are those of whatever verdict the words and the files come to, unless a call of the host failed or
--- memory was wanting.
+-- For a command whose words and files determine its verdict: the code and the report are those of whatever verdict they come to,
+-- unless a call of the host failed or memory was wanting.
 abbrev pub IsDue : Option Request → ℕ → World → World → Type 0
 IsDue request n old new =
-    (verdict : Verdict) → ComesTo request old.content.file verdict → has_report n ≡ true
+    IsTrue (is_determined (plan_of request).job) → (verdict : Verdict) → ComesTo request old.content.file verdict → has_report n ≡ true
     → (n ≡ code_of (status_of verdict)) × IsReport verdict (new.content.sent Report)
 
--- without a rise of the counts of faults the code is that of the verdict, or memory was wanting
+-- For such a command: without a rise of the counts of faults the code is that of the verdict, or memory was wanting.
 abbrev pub IsComplete : Option Request → ℕ → World → World → Type 0
 IsComplete request n old new =
-    (Rose old.read_faults new.read_faults → ⊥) → (Rose old.write_faults new.write_faults → ⊥)
+    IsTrue (is_determined (plan_of request).job) → (Rose old.read_faults new.read_faults → ⊥) → (Rose old.write_faults new.write_faults → ⊥)
     → (verdict : Verdict) → ComesTo request old.content.file verdict → (n ≡ code_of (status_of verdict)) ⊎ (n ≡ 6)
 
 -- Without a rise of the counts of faults a command that writes a proof is done with an instance that is taken, or memory was

@@ -2,6 +2,7 @@
 ghost use Rattle.std.specs.Prelude.{◌≡◌, ◌≤◌, Some, IfOk, IfErr};
 ghost use Rattle.hrt_base.specs.Calls.{AtStart};
 ghost use Rattle.rank_tables.specs.Instance.{pair_count};
+ghost use Rattle.plain_enumeration.specs.Sets.{most_pairs_tried};
 ghost use Rattle.hrt_cli.specs.Answers.{GivesUp, IsAnswer, IsAnswered};
 ghost use Rattle.hrt_cli.specs.Ports.{KeepsOtherPorts, ReadsInputs, WritesOutputs};
 ghost use Rattle.hrt_cli.specs.Requests.{solve};
@@ -33,7 +34,7 @@ pub fn solve<H: Host>(alloc: Global, host: &mut H, instance: &str) -> Result<Ans
 
 // The answer for an instance of few pairs.
 fn solved(alloc: Global, inst: &Instance) -> Result<Answer, Ended>
-    requires { pair_count inst.now ≤ 12 }
+    requires { pair_count inst.now ≤ most_pairs_tried }
     ensures answered { IfOk result (λ answer. IsAnswer (solved inst.now) answer) }
     ensures ended { IfErr result (λ e. e ≡ Ended.NoMemory) }
 {

@@ -16,7 +16,7 @@ use Rattle.hrt_solve.specs.declared.ends.SolveEnd.{SolveEnd}
 use Rattle.hrt_solve.specs.Gauged.{bound_claim, found_claim}
 use Rattle.hrt_solve.specs.Writing.{IsBounded, IsProof, IsSolvedQuickly, SentBoth, SentFrontBehind, StopsWriting}
 use Rattle.hrt_cli.specs.Outputs.{Output, both, output, text_on}
-use Rattle.hrt_cli.specs.Verdicts.{first_claim}
+use Rattle.hrt_cli.specs.Outcomes.{first_claim}
 use Rattle.hrt_cli.specs.Writing.{AreBegun, IsWritten, SavesInPart, SavesProof, Writes, WritesAll, WritesFronts, WritesNothing}
 
 -- ---- ports

@@ -1,251 +1,200 @@
 -- What the end of a run says of the code that it answers.
 use Rattle.std.specs.Prelude.{is_some}
-use Rattle.std.proofs.Common.{◌≡◌, ◌⊎◌, ℕ, zero, suc, Bool, true, false, ◌==◌, ◌||◌, bytes_eq, List, [], ◌∷◌, take, Option, Some, None, Result, Ok, Err, length, refl, sym, ◌∙◌, ap, inl, inr, option_map, cond, subst}
+use Rattle.std.proofs.Common.{◌≡◌, ◌⊎◌, ◌==◌, ◌||◌, ◌&&◌, ℕ, zero, suc, Bool, true, false, bytes_eq, List, [], ◌∷◌, take, Option, Some, None, Result, Ok, Err, IsTrue, refl, sym, ◌∙◌, ap, inl, inr, subst}
+use Rattle.std.proofs.lemmas.Bool.{or_left, or_right}
 use Rattle.hrt_base.specs.declared.port.Port.{Port}
 use Rattle.hrt_base.specs.declared.port.Port.TheVariants.{Report}
 use Rattle.hrt_base.specs.declared.host.Begun.TheVariants.{Writing}
 use Rattle.hrt_base.specs.Calls.{NoFault, Rose}
 use Rattle.hrt_base.specs.World.{World, store}
-use Rattle.promotion_heuristic.specs.Promotion.{promotion}
-use Rattle.rank_tables.specs.Instance.{Lists}
-use Rattle.hrt_reader.specs.Accepted.{Spells}
-use Rattle.hrt_inputs.specs.declared.limit.Limit.TheVariants.{TriedPairs}
-use Rattle.hrt_inputs.specs.Rejections.{Rejection, refused, exceeded, pairs_refused, model_refused, proof_refused, truncated}
-use Rattle.hrt_inputs.specs.Taken.{lists_in, within}
-use Rattle.hrt_inputs.proofs.ReadInstances.{of_within, spelled}
+use Rattle.hrt_inputs.specs.Rejections.{Rejection}
 use Rattle.hrt_cli.specs.declared.status.Status.{Status}
-use Rattle.hrt_cli.specs.declared.status.Status.TheVariants.{Done, Misused, InstanceRefused, ReadFault, WriteFault, NoMemory, LimitExceeded, ProofRefused, AuditNo, Bounded, PairsRefused}
+use Rattle.hrt_cli.specs.declared.status.Status.TheVariants.{Done, Misused, InstanceRefused, LimitExceeded, ProofRefused, AuditNo, Bounded, PairsRefused}
+use Rattle.hrt_cli.specs.declared.stop.Ended.{Ended}
+use Rattle.hrt_cli.specs.declared.stop.Ended.TheVariants.{ReadFault, WriteFault, NoMemory}
 use Rattle.hrt_cli.specs.Answers.{IsCutShort, LeavesFronts, SendsDue, SendsNothing}
-use Rattle.hrt_cli.specs.Outputs.{Output, SendsAll, files_after, is_output_name, outputs_of, outputs_with, texts_of}
-use Rattle.hrt_cli.specs.Reports.{IsReport}
-use Rattle.hrt_cli.specs.Requests.{Request, solve}
-use Rattle.hrt_cli.specs.Runs.{EndsAs, IsDecided, IsDue, IsReported, Reported, KeepsFiles, KeepsOtherFiles, PrintsBest, has_report, is_code_of, keeps_files}
-use Rattle.hrt_cli.specs.Statuses.{code_of, status_of}
-use Rattle.hrt_cli.specs.Plans.{Files, Named, is_named, plan_of}
-use Rattle.hrt_cli.specs.Verdicts.{ComesTo, Verdict, misused, rejected, solved, audited, modeled, verified, checked, bounded, matched, due as due_for, solve_verdict}
+use Rattle.hrt_cli.specs.Outcomes.{ComesTo, IsReport, OnRead, Outcome, Due}
+use Rattle.hrt_cli.specs.Outputs.{Output, SendsAll, files_after, outputs_of, outputs_with}
+use Rattle.hrt_cli.specs.Plans.{AreTaken, Files, Named, Plan, Value, is_named, plan_of}
+use Rattle.hrt_cli.specs.Requests.{Request}
+use Rattle.hrt_cli.specs.Runs.{EndsAs, Finishes, IsComplete, IsDecided, IsDue, IsReported, NoRise, KeepsFiles, KeepsOtherFiles, has_report, is_code_of, keeps_files}
+use Rattle.hrt_cli.specs.Statuses.{code_of, early_code_of, exit_code, is_code_among, is_told_of, statuses_of}
 use Rattle.hrt_cli.proofs.NamedOutputs.{not_stored}
-use Rattle.hrt_cli.proofs.OneVerdict.{one_told, some_is}
+use Rattle.hrt_cli.proofs.Once.{of_job, one_told, reads_once}
+use Rattle.hrt_cli.proofs.Serving.{without_texts}
 
-pub read_fault : (told : Type 0) (request : Option Request) (status : Status) (old new : World) → EndsAs told request status old new → code_of status ≡ 4
-    → Rose old.read_faults new.read_faults
-read_fault told request ReadFault old new ends e = ends.failed.rose
-read_fault told request WriteFault old new ends e = absurd (cc)
-read_fault told request NoMemory old new ends e = absurd (cc)
-read_fault told request Done old new ends e = absurd (cc)
-read_fault told request Misused old new ends e = absurd (cc)
-read_fault told request InstanceRefused old new ends e = absurd (cc)
-read_fault told request LimitExceeded old new ends e = absurd (cc)
-read_fault told request ProofRefused old new ends e = absurd (cc)
-read_fault told request AuditNo old new ends e = absurd (cc)
-read_fault told request PairsRefused old new ends e = absurd (cc)
-read_fault told request Bounded old new ends e = absurd (cc)
+-- a status is told by a report
+told_by : (status : Status) → has_report (code_of status) ≡ true
+told_by Done = refl
+told_by Misused = refl
+told_by InstanceRefused = refl
+told_by LimitExceeded = refl
+told_by ProofRefused = refl
+told_by AuditNo = refl
+told_by Bounded = refl
+told_by PairsRefused = refl
 
-pub no_output_begun : (told : Type 0) (request : Option Request) (status : Status) (old new : World) → EndsAs told request status old new → code_of status ≡ 4
-    → (port : Port) → new.begun port ≡ Writing → port ≡ Report
-no_output_begun told request ReadFault old new ends e = ends.failed.writers
-no_output_begun told request WriteFault old new ends e = absurd (cc)
-no_output_begun told request NoMemory old new ends e = absurd (cc)
-no_output_begun told request Done old new ends e = absurd (cc)
-no_output_begun told request Misused old new ends e = absurd (cc)
-no_output_begun told request InstanceRefused old new ends e = absurd (cc)
-no_output_begun told request LimitExceeded old new ends e = absurd (cc)
-no_output_begun told request ProofRefused old new ends e = absurd (cc)
-no_output_begun told request AuditNo old new ends e = absurd (cc)
-no_output_begun told request PairsRefused old new ends e = absurd (cc)
-no_output_begun told request Bounded old new ends e = absurd (cc)
+-- and by no other code
+no_status : (status : Status) (n : ℕ) → has_report n ≡ false → code_of status ≡ n → ⊥
+no_status status n e is = let t : true ≡ false = sym (told_by status) ∙ ap has_report is ∙ e in absurd (cc)
 
-pub write_fault : (told : Type 0) (request : Option Request) (status : Status) (old new : World) → EndsAs told request status old new → code_of status ≡ 5
-    → Rose old.write_faults new.write_faults
-write_fault told request WriteFault old new ends e = ends.rose
-write_fault told request ReadFault old new ends e = absurd (cc)
-write_fault told request NoMemory old new ends e = absurd (cc)
-write_fault told request Done old new ends e = absurd (cc)
-write_fault told request Misused old new ends e = absurd (cc)
-write_fault told request InstanceRefused old new ends e = absurd (cc)
-write_fault told request LimitExceeded old new ends e = absurd (cc)
-write_fault told request ProofRefused old new ends e = absurd (cc)
-write_fault told request AuditNo old new ends e = absurd (cc)
-write_fault told request PairsRefused old new ends e = absurd (cc)
-write_fault told request Bounded old new ends e = absurd (cc)
+module _ (told : Type 0) (request : Option Request) (old new : World) where
+  pub read_fault : (e : Result Status Ended) → EndsAs told request e old new → exit_code e ≡ 4 → Rose old.read_faults new.read_faults
+  read_fault (Ok status) ends is = absurd (no_status status 4 refl is)
+  read_fault (Err ReadFault) ends is = ends.ends.rose
+  read_fault (Err WriteFault) ends is = absurd (cc)
+  read_fault (Err NoMemory) ends is = absurd (cc)
 
-pub after_read_fault : (told : Type 0) (request : Option Request) (status : Status) (old new : World) → EndsAs told request status old new → told → code_of status ≡ 4
-    → SendsNothing old.content new.content
-after_read_fault told request ReadFault old new ends t e = ends.failed.nothing t
-after_read_fault told request WriteFault old new ends t e = absurd (cc)
-after_read_fault told request NoMemory old new ends t e = absurd (cc)
-after_read_fault told request Done old new ends t e = absurd (cc)
-after_read_fault told request Misused old new ends t e = absurd (cc)
-after_read_fault told request InstanceRefused old new ends t e = absurd (cc)
-after_read_fault told request LimitExceeded old new ends t e = absurd (cc)
-after_read_fault told request ProofRefused old new ends t e = absurd (cc)
-after_read_fault told request AuditNo old new ends t e = absurd (cc)
-after_read_fault told request PairsRefused old new ends t e = absurd (cc)
-after_read_fault told request Bounded old new ends t e = absurd (cc)
+  pub no_output_begun : (e : Result Status Ended) → EndsAs told request e old new → exit_code e ≡ 4 → (port : Port) → new.begun port ≡ Writing → port ≡ Report
+  no_output_begun (Ok status) ends is = absurd (no_status status 4 refl is)
+  no_output_begun (Err ReadFault) ends is = ends.ends.writers
+  no_output_begun (Err WriteFault) ends is = absurd (cc)
+  no_output_begun (Err NoMemory) ends is = absurd (cc)
 
-pub after_write_fault : (told : Type 0) (request : Option Request) (status : Status) (old new : World) → EndsAs told request status old new → told → code_of status ≡ 5
-    → IsCutShort request old new
-after_write_fault told request WriteFault old new ends t e = ends.cut_short t
-after_write_fault told request ReadFault old new ends t e = absurd (cc)
-after_write_fault told request NoMemory old new ends t e = absurd (cc)
-after_write_fault told request Done old new ends t e = absurd (cc)
-after_write_fault told request Misused old new ends t e = absurd (cc)
-after_write_fault told request InstanceRefused old new ends t e = absurd (cc)
-after_write_fault told request LimitExceeded old new ends t e = absurd (cc)
-after_write_fault told request ProofRefused old new ends t e = absurd (cc)
-after_write_fault told request AuditNo old new ends t e = absurd (cc)
-after_write_fault told request PairsRefused old new ends t e = absurd (cc)
-after_write_fault told request Bounded old new ends t e = absurd (cc)
+  pub after_read_fault : (e : Result Status Ended) → EndsAs told request e old new → told → exit_code e ≡ 4 → SendsNothing old.content new.content
+  after_read_fault (Ok status) ends t is = absurd (no_status status 4 refl is)
+  after_read_fault (Err ReadFault) ends t is = ends.ends.nothing t
+  after_read_fault (Err WriteFault) ends t is = absurd (cc)
+  after_read_fault (Err NoMemory) ends t is = absurd (cc)
 
-pub after_no_memory : (told : Type 0) (request : Option Request) (status : Status) (old new : World) → EndsAs told request status old new → told → code_of status ≡ 6
-    → LeavesFronts request old.content new.content
-after_no_memory told request NoMemory old new ends t e = ends.fronts t
-after_no_memory told request ReadFault old new ends t e = absurd (cc)
-after_no_memory told request WriteFault old new ends t e = absurd (cc)
-after_no_memory told request Done old new ends t e = absurd (cc)
-after_no_memory told request Misused old new ends t e = absurd (cc)
-after_no_memory told request InstanceRefused old new ends t e = absurd (cc)
-after_no_memory told request LimitExceeded old new ends t e = absurd (cc)
-after_no_memory told request ProofRefused old new ends t e = absurd (cc)
-after_no_memory told request AuditNo old new ends t e = absurd (cc)
-after_no_memory told request PairsRefused old new ends t e = absurd (cc)
-after_no_memory told request Bounded old new ends t e = absurd (cc)
+  pub write_fault : (e : Result Status Ended) → EndsAs told request e old new → exit_code e ≡ 5 → Rose old.write_faults new.write_faults
+  write_fault (Ok status) ends is = absurd (no_status status 5 refl is)
+  write_fault (Err ReadFault) ends is = absurd (cc)
+  write_fault (Err WriteFault) ends is = ends.ends.rose
+  write_fault (Err NoMemory) ends is = absurd (cc)
 
--- a code with a report comes of a report
-pub reported : (told : Type 0) (request : Option Request) (status : Status) (old new : World) → EndsAs told request status old new → has_report (code_of status) ≡ true
-    → Reported told request status old new
-reported told request Done old new ends has = ends
-reported told request Misused old new ends has = ends
-reported told request InstanceRefused old new ends has = ends
-reported told request LimitExceeded old new ends has = ends
-reported told request ProofRefused old new ends has = ends
-reported told request AuditNo old new ends has = ends
-reported told request PairsRefused old new ends has = ends
-reported told request Bounded old new ends has = ends
-reported told request ReadFault old new ends has = absurd (cc)
-reported told request WriteFault old new ends has = absurd (cc)
-reported told request NoMemory old new ends has = absurd (cc)
+  pub after_write_fault : (e : Result Status Ended) → EndsAs told request e old new → told → exit_code e ≡ 5 → IsCutShort request old new
+  after_write_fault (Ok status) ends t is = absurd (no_status status 5 refl is)
+  after_write_fault (Err ReadFault) ends t is = absurd (cc)
+  after_write_fault (Err WriteFault) ends t is = ends.ends.cut_short t
+  after_write_fault (Err NoMemory) ends t is = absurd (cc)
 
-pub decided : (told : Type 0) (request : Option Request) (status : Status) (old new : World) → EndsAs told request status old new → told → has_report (code_of status) ≡ true
-    → IsDecided request (code_of status) old new
-decided told request status old new ends t has =
-    record { status = status; code = refl; reported = (reported told request status old new ends has).reported t }
+  pub after_no_memory : (e : Result Status Ended) → EndsAs told request e old new → told → exit_code e ≡ 6 → LeavesFronts request old.content new.content
+  after_no_memory (Ok status) ends t is = absurd (no_status status 6 refl is)
+  after_no_memory (Err ReadFault) ends t is = absurd (cc)
+  after_no_memory (Err WriteFault) ends t is = absurd (cc)
+  after_no_memory (Err NoMemory) ends t is = ends.ends t
 
--- the report that was sent is that of each verdict that the words and the files come to
-due_reported : (request : Option Request) (status : Status) (old new : World) → IsReported request status old new → (verdict : Verdict) → ComesTo request old.content.file verdict
-    → (code_of status ≡ code_of (status_of verdict)) × IsReport verdict (new.content.sent Report)
-due_reported request status old new told_of verdict is =
-    let alike = one_told request old.content.file told_of.verdict verdict told_of.due is in
-    (ap code_of (told_of.answered ∙ alike.status), alike.report (new.content.sent Report) told_of.report)
+  -- ---- a report
 
-pub due : (told : Type 0) (request : Option Request) (status : Status) (old new : World) → EndsAs told request status old new → told → IsDue request (code_of status) old new
-due told request status old new ends t verdict is has = due_reported request status old new ((reported told request status old new ends has).reported t) verdict is
+  pub closed : (e : Result Status Ended) → EndsAs told request e old new → has_report (exit_code e) ≡ true → (port : Port) → new.begun port ≡ Writing → ⊥
+  closed (Ok status) ends has = ends.closed
+  closed (Err ReadFault) ends has = absurd (cc)
+  closed (Err WriteFault) ends has = absurd (cc)
+  closed (Err NoMemory) ends has = absurd (cc)
 
-pub closed : (told : Type 0) (request : Option Request) (status : Status) (old new : World) → EndsAs told request status old new → has_report (code_of status) ≡ true
-    → (port : Port) → new.begun port ≡ Writing → ⊥
-closed told request status old new ends has = (reported told request status old new ends has).closed
+  pub no_fault : (e : Result Status Ended) → EndsAs told request e old new → has_report (exit_code e) ≡ true → NoFault old new
+  no_fault (Ok status) ends has = ends.no_fault
+  no_fault (Err ReadFault) ends has = absurd (cc)
+  no_fault (Err WriteFault) ends has = absurd (cc)
+  no_fault (Err NoMemory) ends has = absurd (cc)
 
-pub no_fault : (told : Type 0) (request : Option Request) (status : Status) (old new : World) → EndsAs told request status old new → has_report (code_of status) ≡ true → NoFault old new
-no_fault told request status old new ends has = (reported told request status old new ends has).no_fault
+  pub decided : (e : Result Status Ended) → EndsAs told request e old new → told → has_report (exit_code e) ≡ true → IsDecided request (exit_code e) old new
+  decided (Ok status) ends t has = record { status = status; code = refl; reported = ends.reported t }
+  decided (Err ReadFault) ends t has = absurd (cc)
+  decided (Err WriteFault) ends t has = absurd (cc)
+  decided (Err NoMemory) ends t has = absurd (cc)
 
--- without a rise of the counts of faults there is a report, or memory was wanting
-pub reported_or : (told : Type 0) (request : Option Request) (status : Status) (old new : World) → EndsAs told request status old new
-    → (Rose old.read_faults new.read_faults → ⊥) → (Rose old.write_faults new.write_faults → ⊥) → Reported told request status old new ⊎ (code_of status ≡ 6)
-reported_or told request ReadFault old new ends unread unwritten = absurd (unread ends.failed.rose)
-reported_or told request WriteFault old new ends unread unwritten = absurd (unwritten ends.rose)
-reported_or told request NoMemory old new ends unread unwritten = inr refl
-reported_or told request Done old new ends unread unwritten = inl ends
-reported_or told request Misused old new ends unread unwritten = inl ends
-reported_or told request InstanceRefused old new ends unread unwritten = inl ends
-reported_or told request LimitExceeded old new ends unread unwritten = inl ends
-reported_or told request ProofRefused old new ends unread unwritten = inl ends
-reported_or told request AuditNo old new ends unread unwritten = inl ends
-reported_or told request Bounded old new ends unread unwritten = inl ends
-reported_or told request PairsRefused old new ends unread unwritten = inl ends
+  -- the same, of a code that is that of the end and of a request that is the one that the words spell
+  pub decided_as : (e : Result Status Ended) → EndsAs told request e old new → told → (r n : ℕ) → r ≡ exit_code e → r ≡ n → has_report n ≡ true → (ask : Request) → request ≡ Some ask → IsDecided (Some ask) n old new
+  decided_as e ends t r n code is has ask asks =
+      let here : exit_code e ≡ n = sym code ∙ is in
+      subst (λ (q : Option Request). IsDecided q n old new) asks (subst (λ (k : ℕ). IsDecided request k old new) here (decided e ends t (ap has_report here ∙ has)))
 
-pub complete : (told : Type 0) (request : Option Request) (status : Status) (old new : World) → EndsAs told request status old new → told
-    → (Rose old.read_faults new.read_faults → ⊥) → (Rose old.write_faults new.write_faults → ⊥) → (verdict : Verdict) → ComesTo request old.content.file verdict
-    → (code_of status ≡ code_of (status_of verdict)) ⊎ (code_of status ≡ 6)
-complete told request status old new ends t unread unwritten verdict is = elim (reported_or told request status old new ends unread unwritten) [
-  | inl told_of ↦ inl (due_reported request status old new (told_of.reported t) verdict is).0
-  | inr e ↦ inr e
-]
+  -- without a rise of the counts of faults there is a report, or memory was wanting
+  reported_or : (e : Result Status Ended) → EndsAs told request e old new → told → NoRise old new → IsDecided request (exit_code e) old new ⊎ (exit_code e ≡ 6)
+  reported_or (Ok status) ends t none = inl (record { status = status; code = refl; reported = ends.reported t })
+  reported_or (Err ReadFault) ends t none = absurd (none.unread ends.ends.rose)
+  reported_or (Err WriteFault) ends t none = absurd (none.unwritten ends.ends.rose)
+  reported_or (Err NoMemory) ends t none = inr refl
 
-pub misused_code : (told : Type 0) (request : Option Request) (status : Status) (old new : World) → EndsAs told request status old new → code_of status ≡ 2 → request ≡ None
-misused_code told request Misused old new ends e = ends.understood.0 refl
-misused_code told request Done old new ends e = absurd (cc)
-misused_code told request InstanceRefused old new ends e = absurd (cc)
-misused_code told request ReadFault old new ends e = absurd (cc)
-misused_code told request WriteFault old new ends e = absurd (cc)
-misused_code told request NoMemory old new ends e = absurd (cc)
-misused_code told request LimitExceeded old new ends e = absurd (cc)
-misused_code told request ProofRefused old new ends e = absurd (cc)
-misused_code told request AuditNo old new ends e = absurd (cc)
-misused_code told request PairsRefused old new ends e = absurd (cc)
-misused_code told request Bounded old new ends e = absurd (cc)
+  -- the report that was sent is that of whatever the words and the files come to
+  due_reported : (n : ℕ) → IsDecided request n old new → (due : Outcome) → ComesTo (plan_of request) old.content.file due → (n ≡ code_of due.status) × IsReport due.report (new.content.sent Report)
+  due_reported n is due comes =
+      let told_of = is.reported in
+      let alike = one_told (plan_of request) old.content.file told_of.outcome due told_of.due comes in
+      (is.code ∙ ap code_of (told_of.answered ∙ alike.status), subst (λ (d : Due). IsReport d (new.content.sent Report)) alike.report told_of.report)
 
-pub understood_code : (told : Type 0) (request : Option Request) (status : Status) (old new : World) → EndsAs told request status old new → request ≡ None
-    → (code_of status ≡ 2) ⊎ (code_of status ≡ 5)
-understood_code told request Misused old new ends e = inl refl
-understood_code told request WriteFault old new ends e = inr refl
-understood_code told request Done old new ends e = inl (ap code_of (ends.understood.1 e))
-understood_code told request InstanceRefused old new ends e = inl (ap code_of (ends.understood.1 e))
-understood_code told request LimitExceeded old new ends e = inl (ap code_of (ends.understood.1 e))
-understood_code told request ProofRefused old new ends e = inl (ap code_of (ends.understood.1 e))
-understood_code told request AuditNo old new ends e = inl (ap code_of (ends.understood.1 e))
-understood_code told request PairsRefused old new ends e = inl (ap code_of (ends.understood.1 e))
-understood_code told request Bounded old new ends e = inl (ap code_of (ends.understood.1 e))
-understood_code told request ReadFault old new ends e = absurd (ends.understood e)
-understood_code told request NoMemory old new ends e = absurd (ends.understood e)
+  pub due : (e : Result Status Ended) → EndsAs told request e old new → told → IsDue request (exit_code e) old new
+  due e ends t determined out comes has = due_reported (exit_code e) (decided e ends t has) out comes
+
+  pub complete : (e : Result Status Ended) → EndsAs told request e old new → told → IsComplete request (exit_code e) old new
+  complete e ends t determined none out comes = elim (reported_or e ends t none) [
+    | inl is ↦ inl (due_reported (exit_code e) is out comes).0
+    | inr wanting ↦ inr wanting
+  ]
+
+  -- what is told of inputs that are taken is told of their job
+  job_told : (n : ℕ) → IsDecided request n old new → AreTaken (plan_of request).inputs old.content.file → IsTrue (is_code_among (statuses_of (plan_of request).job) n)
+  job_told n is taken =
+      let told_of = is.reported in
+      let comes = subst (λ (r : Result (List Value) Rejection). OnRead (plan_of request).job r told_of.outcome)
+      (reads_once (plan_of request).inputs old.content.file [] told_of.due.read (Ok taken.values) told_of.due.reads taken.reads) told_of.due.comes in
+      subst (λ (k : ℕ). IsTrue (is_code_among (statuses_of (plan_of request).job) k)) (sym (is.code ∙ ap code_of told_of.answered)) (of_job (plan_of request).job taken.values told_of.outcome comes).status
+
+  pub finishes : (e : Result Status Ended) → EndsAs told request e old new → told → Finishes request (exit_code e) old new
+  finishes e ends t none taken = elim (reported_or e ends t none) [
+    | inl is ↦ inl (job_told (exit_code e) is taken)
+    | inr wanting ↦ inr wanting
+  ]
+
+  -- ---- words
+
+  is_misused : (status : Status) → code_of status ≡ 2 → status ≡ Misused
+  is_misused Misused e = refl
+  is_misused Done e = absurd (cc)
+  is_misused InstanceRefused e = absurd (cc)
+  is_misused LimitExceeded e = absurd (cc)
+  is_misused ProofRefused e = absurd (cc)
+  is_misused AuditNo e = absurd (cc)
+  is_misused Bounded e = absurd (cc)
+  is_misused PairsRefused e = absurd (cc)
+
+  pub misused_code : (e : Result Status Ended) → EndsAs told request e old new → exit_code e ≡ 2 → request ≡ None
+  misused_code (Ok status) ends is = ends.understood.0 (is_misused status is)
+  misused_code (Err ReadFault) ends is = absurd (cc)
+  misused_code (Err WriteFault) ends is = absurd (cc)
+  misused_code (Err NoMemory) ends is = absurd (cc)
+
+  pub understood_code : (e : Result Status Ended) → EndsAs told request e old new → request ≡ None → (exit_code e ≡ 2) ⊎ (exit_code e ≡ 5)
+  understood_code (Ok status) ends is = inl (ap code_of (ends.understood.1 is))
+  understood_code (Err why) ends is = inr (ap early_code_of (ends.understood is))
+
+  asked : (request ≡ None → ⊥) → is_some request ≡ true
+  asked other = by request other
+    where
+      by : (r : Option Request) → (r ≡ None → ⊥) → is_some r ≡ true
+      by None h = absurd (h refl)
+      by (Some r) h = refl
+
+  pub known : (e : Result Status Ended) → EndsAs told request e old new → is_code_of request (exit_code e) ≡ true
+  known (Ok status) ends = or_right (code_of status == 5 || ((code_of status == 4 || code_of status == 6) && is_some request)) (is_told_of request (code_of status)) ends.suits
+  known (Err ReadFault) ends = or_left (is_some request) _ (asked (λ e. let no : ReadFault ≡ WriteFault = ends.understood e in absurd (cc)))
+  known (Err WriteFault) ends = refl
+  known (Err NoMemory) ends = or_left (is_some request) _ (asked (λ e. let no : NoMemory ≡ WriteFault = ends.understood e in absurd (cc)))
 
 -- ---- files
 
-abbrev no_outputs : List Output
-no_outputs = []
+-- no text is due by a code that is told of no output
+unwritten : (command : Plan) (files : Files) (due : Outcome) → ComesTo command files due → keeps_files (code_of due.status) ≡ true → due.texts ≡ []
+unwritten command files due is keeps = by is.read is.comes
+  where
+    by : (r : Result (List Value) Rejection) → OnRead command.job r due → due.texts ≡ []
+    by (Err rejection) comes = ap (λ (o : Outcome). o.texts) comes
+    by (Ok values) comes = (of_job command.job values due comes).unwritten keeps
 
-abbrev no_texts : List (List ℕ)
-no_texts = []
-
-done_or_bounded : (b : Bool) → (cond b Done Bounded ≡ Done → ⊥) → (cond b Done Bounded ≡ Bounded → ⊥) → ⊥
-done_or_bounded true other open_too = other refl
-done_or_bounded false other open_too = open_too refl
-
--- no text is due for a verdict without a matching or a model
-unwritten : (verdict : Verdict) → (status_of verdict ≡ Done → ⊥) → (status_of verdict ≡ Bounded → ⊥) → texts_of verdict ≡ no_texts
-unwritten misused other open_too = refl
-unwritten (rejected rejection) other open_too = refl
-unwritten (solved lists) other open_too = refl
-unwritten (audited lists pairs) other open_too = refl
-unwritten (verified claim) other open_too = refl
-unwritten (checked claim) other open_too = refl
-unwritten (modeled lists) other open_too = absurd (other refl)
-unwritten (bounded lists deleted top text) other open_too = absurd (other refl)
-unwritten (matched lists deleted top text) other open_too = absurd (done_or_bounded (length (promotion lists) == top) other open_too)
-
-without_texts : (outputs : List Named) → outputs_with outputs [] ≡ no_outputs
-without_texts [] = refl
-without_texts (o ∷ outputs) = refl
-
-none_written : (request : Option Request) (verdict : Verdict) → (status_of verdict ≡ Done → ⊥) → (status_of verdict ≡ Bounded → ⊥) → outputs_of request verdict ≡ no_outputs
-none_written request verdict other open_too = ap (outputs_with (plan_of request).outputs) (unwritten verdict other open_too) ∙ without_texts (plan_of request).outputs
-
-kept_unwritten : (request : Option Request) (status : Status) (old new : World) → (status ≡ Done → ⊥) → (status ≡ Bounded → ⊥) → IsReported request status old new → KeepsFiles old.content new.content
-kept_unwritten request status old new other open_too told_of name =
+kept_unwritten : (request : Option Request) (status : Status) (old new : World) → keeps_files (code_of status) ≡ true → IsReported request status old new → KeepsFiles old.content new.content
+kept_unwritten request status old new keeps told_of name =
+    let none : told_of.outcome.texts ≡ [] = unwritten (plan_of request) old.content.file told_of.outcome told_of.due (ap (λ (s : Status). keeps_files (code_of s)) (sym told_of.answered) ∙ keeps) in
     told_of.sends.files name
-    ∙ ap (λ (outputs : List Output). files_after outputs old.content.file name)
-    (none_written request told_of.verdict (λ e. other (told_of.answered ∙ e)) (λ e. open_too (told_of.answered ∙ e)))
+    ∙ ap (λ (texts : List (List ℕ)). files_after (outputs_of request texts) old.content.file name) none
+    ∙ ap (λ (outputs : List Output). files_after outputs old.content.file name) (without_texts (plan_of request).outputs)
 
-pub files_kept : (told : Type 0) (request : Option Request) (status : Status) (old new : World) → EndsAs told request status old new → told → keeps_files (code_of status) ≡ true → KeepsFiles old.content new.content
-files_kept told request ReadFault old new ends t e = (ends.failed.nothing t).files
-files_kept told request NoMemory old new ends t e = absurd (cc)
-files_kept told request WriteFault old new ends t e = absurd (cc)
-files_kept told request Done old new ends t e = absurd (cc)
-files_kept told request Misused old new ends t e = kept_unwritten request Misused old new (λ d. absurd (cc)) (λ d. absurd (cc)) (ends.reported t)
-files_kept told request InstanceRefused old new ends t e = kept_unwritten request InstanceRefused old new (λ d. absurd (cc)) (λ d. absurd (cc)) (ends.reported t)
-files_kept told request LimitExceeded old new ends t e = kept_unwritten request LimitExceeded old new (λ d. absurd (cc)) (λ d. absurd (cc)) (ends.reported t)
-files_kept told request ProofRefused old new ends t e = kept_unwritten request ProofRefused old new (λ d. absurd (cc)) (λ d. absurd (cc)) (ends.reported t)
-files_kept told request AuditNo old new ends t e = kept_unwritten request AuditNo old new (λ d. absurd (cc)) (λ d. absurd (cc)) (ends.reported t)
-files_kept told request PairsRefused old new ends t e = kept_unwritten request PairsRefused old new (λ d. absurd (cc)) (λ d. absurd (cc)) (ends.reported t)
-files_kept told request Bounded old new ends t e = absurd (cc)
+pub files_kept : (told : Type 0) (request : Option Request) (e : Result Status Ended) (old new : World) → EndsAs told request e old new → told → keeps_files (exit_code e) ≡ true → KeepsFiles old.content new.content
+files_kept told request (Ok status) old new ends t keeps = kept_unwritten request status old new keeps (ends.reported t)
+files_kept told request (Err ReadFault) old new ends t keeps = (ends.ends.nothing t).files
+files_kept told request (Err WriteFault) old new ends t keeps = absurd (cc)
+files_kept told request (Err NoMemory) old new ends t keeps = absurd (cc)
 
 -- no output has this name
 abbrev NoneNamed : List ℕ → List Output → Type 0
@@ -256,14 +205,11 @@ neither : (a b : Bool) → (a || b) ≡ false → (a ≡ false) × (b ≡ false)
 neither true b e = absurd (cc)
 neither false b e = (refl, e)
 
-unnamed_by : (outputs : List Named) (texts : List (List ℕ)) (name : List ℕ) → is_named outputs name ≡ false → NoneNamed name (outputs_with outputs texts)
-unnamed_by [] texts name e = tt
-unnamed_by (o ∷ outputs) [] name e = tt
-unnamed_by (o ∷ outputs) (text ∷ texts) name e =
-    let apart = neither (bytes_eq name o.name) (is_named outputs name) e in (apart.0, unnamed_by outputs texts name apart.1)
-
-unnamed : (request : Option Request) (verdict : Verdict) (name : List ℕ) → is_output_name request name ≡ false → NoneNamed name (outputs_of request verdict)
-unnamed request verdict name e = unnamed_by (plan_of request).outputs (texts_of verdict) name e
+unnamed : (outputs : List Named) (texts : List (List ℕ)) (name : List ℕ) → is_named outputs name ≡ false → NoneNamed name (outputs_with outputs texts)
+unnamed [] texts name e = tt
+unnamed (o ∷ outputs) [] name e = tt
+unnamed (o ∷ outputs) (text ∷ texts) name e =
+    let apart = neither (bytes_eq name o.name) (is_named outputs name) e in (apart.0, unnamed outputs texts name apart.1)
 
 -- a file that no output names
 kept_else : (outputs : List Output) (files : Files) (name : List ℕ) → NoneNamed name outputs → files_after outputs files name ≡ files name
@@ -281,122 +227,19 @@ kept_left request old new left name e = by left.sends
     by : SendsNothing old.content new.content ⊎ SendsDue request old.content new.content → new.content.file name ≡ old.content.file name
     by (inl nothing) = nothing.files name
     by (inr parts) =
-        let outputs : List Output = outputs_of request parts.verdict in
+        let outputs : List Output = outputs_of request parts.outcome.texts in
         parts.sends.files name
-        ∙ kept_else (take parts.sends.whole outputs) old.content.file name (none_of_first parts.sends.whole outputs name (unnamed request parts.verdict name e))
+        ∙ kept_else (take parts.sends.whole outputs) old.content.file name (none_of_first parts.sends.whole outputs name (unnamed (plan_of request).outputs parts.outcome.texts name e))
 
-kept_sent : (request : Option Request) (verdict : Verdict) (old new : World) → SendsAll (outputs_of request verdict) old.content new.content → KeepsOtherFiles request old.content new.content
-kept_sent request verdict old new sends name e = sends.files name ∙ kept_else (outputs_of request verdict) old.content.file name (unnamed request verdict name e)
+kept_sent : (request : Option Request) (texts : List (List ℕ)) (old new : World) → SendsAll (outputs_of request texts) old.content new.content → KeepsOtherFiles request old.content new.content
+kept_sent request texts old new sends name e = sends.files name ∙ kept_else (outputs_of request texts) old.content.file name (unnamed (plan_of request).outputs texts name e)
 
 kept_cut : (request : Option Request) (old new : World) → IsCutShort request old new → KeepsOtherFiles request old.content new.content
 kept_cut request old new (inl before) = kept_left request old new before.leaves
-kept_cut request old new (inr report) = kept_sent request report.verdict old new report.sends
+kept_cut request old new (inr report) = kept_sent request report.outcome.texts old new report.sends
 
-kept_reported : (request : Option Request) (status : Status) (old new : World) → IsReported request status old new → KeepsOtherFiles request old.content new.content
-kept_reported request status old new told_of = kept_sent request told_of.verdict old new told_of.sends
-
-pub others_kept : (told : Type 0) (request : Option Request) (status : Status) (old new : World) → EndsAs told request status old new → told → KeepsOtherFiles request old.content new.content
-others_kept told request ReadFault old new ends t name e = (ends.failed.nothing t).files name
-others_kept told request NoMemory old new ends t name e = kept_left request old new (ends.fronts t) name e
-others_kept told request WriteFault old new ends t name e = kept_cut request old new (ends.cut_short t) name e
-others_kept told request Done old new ends t name e = kept_reported request Done old new (ends.reported t) name e
-others_kept told request Misused old new ends t name e = kept_reported request Misused old new (ends.reported t) name e
-others_kept told request InstanceRefused old new ends t name e = kept_reported request InstanceRefused old new (ends.reported t) name e
-others_kept told request LimitExceeded old new ends t name e = kept_reported request LimitExceeded old new (ends.reported t) name e
-others_kept told request ProofRefused old new ends t name e = kept_reported request ProofRefused old new (ends.reported t) name e
-others_kept told request AuditNo old new ends t name e = kept_reported request AuditNo old new (ends.reported t) name e
-others_kept told request PairsRefused old new ends t name e = kept_reported request PairsRefused old new (ends.reported t) name e
-others_kept told request Bounded old new ends t name e = kept_reported request Bounded old new (ends.reported t) name e
-
-asked : (request : Option Request) → (request ≡ None → ⊥) → is_some request ≡ true
-asked None h = absurd (h refl)
-asked (Some request) h = refl
-
-pub known : (told : Type 0) (request : Option Request) (status : Status) (old new : World) → EndsAs told request status old new → is_code_of request (code_of status) ≡ true
-known told request Done old new ends = ends.suits
-known told request Misused old new ends = ends.suits
-known told request InstanceRefused old new ends = ends.suits
-known told request ReadFault old new ends = asked request ends.understood
-known told request WriteFault old new ends = refl
-known told request NoMemory old new ends = asked request ends.understood
-known told request LimitExceeded old new ends = ends.suits
-known told request ProofRefused old new ends = ends.suits
-known told request AuditNo old new ends = ends.suits
-known told request PairsRefused old new ends = ends.suits
-known told request Bounded old new ends = ends.suits
-
--- ---- the printed pairs
-
-due_ok : (r : Result Lists Rejection) (found : Lists) → due_for r solved ≡ solved found → r ≡ Ok found
-due_ok (Err rejection) found e = absurd (cc)
-due_ok (Ok lists) found e = cc
-
--- a verdict of best pairs comes of lists that are taken
-taken : (r : Result Lists Rejection) (found : Lists) → due_for (within TriedPairs r) solved ≡ solved found → r ≡ Ok found
-taken r found e = of_within TriedPairs r found (due_ok (within TriedPairs r) found e)
-
--- the verdict on the bytes of a file
-pub record IsSpelledIn (file : Option (List ℕ)) (lists : Lists) : Type 0 where
-  pub bytes : List ℕ
-  pub is_file : file ≡ Some bytes
-  pub spells : Spells bytes lists
-
-spelled_in : (file : Option (List ℕ)) (lists : Lists) → option_map solve_verdict file ≡ Some (solved lists) → IsSpelledIn file lists
-spelled_in None lists e = absurd (cc)
-spelled_in (Some bytes) lists e = record {
-  bytes = bytes;
-  is_file = refl;
-  spells = spelled bytes lists (taken (lists_in bytes) lists (some_is (solve_verdict bytes) (solved lists) e));
-}
-
--- which verdicts the command can come to
-abbrev IsOnSolve : Verdict → Type 0
-IsOnSolve misused = ⊥
-IsOnSolve (rejected rejection) = Unit {0}
-IsOnSolve (solved lists) = Unit {0}
-IsOnSolve (audited lists pairs) = ⊥
-IsOnSolve (modeled lists) = ⊥
-IsOnSolve (verified claim) = ⊥
-IsOnSolve (checked claim) = ⊥
-IsOnSolve (bounded lists deleted top text) = ⊥
-IsOnSolve (matched lists deleted top text) = ⊥
-
-due_on_solve : (r : Result Lists Rejection) (verdict : Verdict) → due_for r solved ≡ verdict → IsOnSolve verdict
-due_on_solve (Err rejection) verdict e = subst IsOnSolve e tt
-due_on_solve (Ok lists) verdict e = subst IsOnSolve e tt
-
-on_solve : (file : Option (List ℕ)) (verdict : Verdict) → option_map solve_verdict file ≡ Some verdict → IsOnSolve verdict
-on_solve None verdict e = absurd (cc)
-on_solve (Some bytes) verdict e = due_on_solve (within TriedPairs (lists_in bytes)) verdict (some_is (solve_verdict bytes) verdict e)
-
--- what isn't taken is told by another code
-pub rejected_not_done : (rejection : Rejection) → code_of (status_of (rejected rejection)) ≡ 0 → ⊥
-rejected_not_done (refused r) e = absurd (cc)
-rejected_not_done (exceeded limit) e = absurd (cc)
-rejected_not_done (pairs_refused r) e = absurd (cc)
-rejected_not_done (model_refused kind line) e = absurd (cc)
-rejected_not_done (proof_refused r) e = absurd (cc)
-rejected_not_done truncated e = absurd (cc)
-
-prints_best : (instance : List ℕ) (old new : World) (verdict : Verdict) → ComesTo (Some (solve instance)) old.content.file verdict → code_of (status_of verdict) ≡ 0
-    → IsReport verdict (new.content.sent Report) → PrintsBest instance old.content new.content
-prints_best instance old new misused is e report = absurd (cc)
-prints_best instance old new (rejected rejection) is e report = absurd (rejected_not_done rejection e)
-prints_best instance old new (audited lists pairs) is e report = absurd (on_solve (old.content.file instance) (audited lists pairs) is)
-prints_best instance old new (modeled lists) is e report = absurd (on_solve (old.content.file instance) (modeled lists) is)
-prints_best instance old new (verified claim) is e report = absurd (on_solve (old.content.file instance) (verified claim) is)
-prints_best instance old new (checked claim) is e report = absurd (on_solve (old.content.file instance) (checked claim) is)
-prints_best instance old new (bounded lists deleted top text) is e report = absurd (on_solve (old.content.file instance) (bounded lists deleted top text) is)
-prints_best instance old new (matched lists deleted top text) is e report = absurd (on_solve (old.content.file instance) (matched lists deleted top text) is)
-prints_best instance old new (solved lists) is e report =
-    let file = spelled_in (old.content.file instance) lists is in
-    record { bytes = file.bytes; file = file.is_file; lists = lists; spelled = file.spells; pairs = report.pairs; best = report.best; rising = report.rising; report = report.is_report }
-
-pub zero_has_report : (n : ℕ) → n ≡ 0 → has_report n ≡ true
-zero_has_report n e = ap has_report e
-
-pub best : (told : Type 0) (request : Option Request) (status : Status) (old new : World) → EndsAs told request status old new → told → code_of status ≡ 0
-    → (instance : List ℕ) → request ≡ Some (solve instance) → PrintsBest instance old.content new.content
-best told request status old new ends t e instance is =
-    let told_of = (reported told request status old new ends (zero_has_report (code_of status) e)).reported t in
-    prints_best instance old new told_of.verdict (subst (λ (r : Option Request). ComesTo r old.content.file told_of.verdict) is told_of.due) (ap code_of (sym told_of.answered) ∙ e) told_of.report
+pub others_kept : (told : Type 0) (request : Option Request) (e : Result Status Ended) (old new : World) → EndsAs told request e old new → told → KeepsOtherFiles request old.content new.content
+others_kept told request (Ok status) old new ends t name e = let told_of = ends.reported t in kept_sent request told_of.outcome.texts old new told_of.sends name e
+others_kept told request (Err ReadFault) old new ends t name e = (ends.ends.nothing t).files name
+others_kept told request (Err WriteFault) old new ends t name e = kept_cut request old new (ends.ends.cut_short t) name e
+others_kept told request (Err NoMemory) old new ends t name e = kept_left request old new (ends.ends t) name e

@@ -1,7 +1,7 @@
 -- What a command leaves of the ports that aren't its own.
-use Rattle.std.proofs.Common.{◌≡◌, ◌⊎◌, ℕ, List, [], ◌++◌, Option, Some, ◌∙◌, ap, inl, inr}
+use Rattle.std.proofs.Common.{◌≡◌, ◌⊎◌, ℕ, List, [], ◌++◌, Option, ◌∙◌, ap, inl, inr}
 use Rattle.hrt_base.specs.declared.port.Port.{Port}
-use Rattle.hrt_base.specs.declared.port.Port.TheVariants.{Instance, Pairs, Model, Proof, Report}
+use Rattle.hrt_base.specs.declared.port.Port.TheVariants.{Model, Proof, Report}
 use Rattle.hrt_base.specs.Calls.{NotWritten, Sealed, Sent, SentFront, SentPart, SentSoFar, Started}
 use Rattle.hrt_base.proofs.Pieces.{sent_so_far}
 use Rattle.hrt_base.specs.World.{World, Content}
@@ -13,36 +13,12 @@ use Rattle.hrt_solve.specs.Writing.{IsBounded, IsSolvedQuickly, SentBoth, SentFr
 use Rattle.hrt_inputs.specs.Inputs.{IsAt, KeepsPorts}
 use Rattle.hrt_inputs.proofs.KeptPorts.{keeps_all, keeps_fewer, keeps_same, keeps_then, put_at_others}
 use Rattle.hrt_cli.specs.Ports.{IsModelOrProof, IsPortOf, KeepsOtherPorts}
-use Rattle.hrt_cli.proofs.BegunPorts.{of_both}
-use Rattle.hrt_cli.specs.Requests.{Request, solve, audit, model, verify, check, bound, quick}
-
--- ---- commands that only read
+use Rattle.hrt_cli.specs.Requests.{Request}
 
 -- one port was used, and then another
 then_at : (told : Type 0) (First Then But : Port → Type 0) (old mid new : World) → ((p : Port) → First p → But p) → ((p : Port) → Then p → But p) → KeepsPorts told First old mid → KeepsPorts told Then mid new
     → KeepsPorts told But old new
 then_at told First Then But old mid new f g a b = keeps_then told But old mid new (keeps_fewer told First But old mid f a) (keeps_fewer told Then But mid new g b)
-
-pub solve_keeps : (told : Type 0) (i : List ℕ) (old new : World) → KeepsPorts told (IsAt Instance) old new → KeepsOtherPorts told (Some (solve i)) old new
-solve_keeps told i old new a = record { others = keeps_fewer told (IsAt Instance) (IsPortOf (Some (solve i))) old new (λ p e. inl (inl e)) a }
-
-pub audit_keeps_one : (told : Type 0) (i q : List ℕ) (old new : World) → KeepsPorts told (IsAt Instance) old new → KeepsOtherPorts told (Some (audit i q)) old new
-audit_keeps_one told i q old new a = record { others = keeps_fewer told (IsAt Instance) (IsPortOf (Some (audit i q))) old new (λ p e. inl (inl e)) a }
-
-pub audit_keeps_two : (told : Type 0) (i q : List ℕ) (old mid new : World) → KeepsPorts told (IsAt Instance) old mid → KeepsPorts told (IsAt Pairs) mid new → KeepsOtherPorts told (Some (audit i q)) old new
-audit_keeps_two told i q old mid new a b = record { others = then_at told (IsAt Instance) (IsAt Pairs) (IsPortOf (Some (audit i q))) old mid new (λ p e. inl (inl e)) (λ p e. inl (inr (inl e))) a b }
-
-pub verify_keeps_one : (told : Type 0) (i q : List ℕ) (old new : World) → KeepsPorts told (IsAt Instance) old new → KeepsOtherPorts told (Some (verify i q)) old new
-verify_keeps_one told i q old new a = record { others = keeps_fewer told (IsAt Instance) (IsPortOf (Some (verify i q))) old new (λ p e. inl (inl e)) a }
-
-pub verify_keeps_two : (told : Type 0) (i q : List ℕ) (old mid new : World) → KeepsPorts told (IsAt Instance) old mid → KeepsPorts told (IsAt Proof) mid new → KeepsOtherPorts told (Some (verify i q)) old new
-verify_keeps_two told i q old mid new a b = record { others = then_at told (IsAt Instance) (IsAt Proof) (IsPortOf (Some (verify i q))) old mid new (λ p e. inl (inl e)) (λ p e. inl (inr (inl e))) a b }
-
-pub check_keeps_one : (told : Type 0) (m q : List ℕ) (old new : World) → KeepsPorts told (IsAt Model) old new → KeepsOtherPorts told (Some (check m q)) old new
-check_keeps_one told m q old new a = record { others = keeps_fewer told (IsAt Model) (IsPortOf (Some (check m q))) old new (λ p e. inl (inl e)) a }
-
-pub check_keeps_two : (told : Type 0) (m q : List ℕ) (old mid new : World) → KeepsPorts told (IsAt Model) old mid → KeepsPorts told (IsAt Proof) mid new → KeepsOtherPorts told (Some (check m q)) old new
-check_keeps_two told m q old mid new a b = record { others = then_at told (IsAt Model) (IsAt Proof) (IsPortOf (Some (check m q))) old mid new (λ p e. inl (inl e)) (λ p e. inl (inr (inl e))) a b }
 
 -- ---- writing
 
@@ -91,12 +67,6 @@ pub begun_sealed_keeps : (told : Type 0) (port : Port) (name text : List ℕ) (o
 begun_sealed_keeps told port name text old mid far new begun sent shut =
     keeps_then told (IsAt port) old far new (keeps_then told (IsAt port) old mid far (started_keeps told port name old mid begun) (sent_keeps told port text mid far (sent_so_far told port text mid far sent))) (sealed_keeps told (IsAt port) port far new shut)
 
-pub model_keeps_one : (told : Type 0) (i m : List ℕ) (old new : World) → KeepsPorts told (IsAt Instance) old new → KeepsOtherPorts told (Some (model i m)) old new
-model_keeps_one told i m old new a = record { others = keeps_fewer told (IsAt Instance) (IsPortOf (Some (model i m))) old new (λ p e. inl (inl e)) a }
-
-pub model_keeps_two : (told : Type 0) (i m : List ℕ) (old mid new : World) → KeepsPorts told (IsAt Instance) old mid → KeepsPorts told (IsAt Model) mid new → KeepsOtherPorts told (Some (model i m)) old new
-model_keeps_two told i m old mid new a b = record { others = then_at told (IsAt Instance) (IsAt Model) (IsPortOf (Some (model i m))) old mid new (λ p e. inl (inl e)) (λ p e. inr (inl (inl e))) a b }
-
 -- ---- the model and a proof
 
 pub one_begun_keeps : (told : Type 0) (name : List ℕ) (old mid new : World) → Started told Model name old mid → NotWritten told mid new → KeepsPorts told IsModelOrProof old new
@@ -129,18 +99,6 @@ stopped_writing told Is lists old new (inr part) = by part.sent
 
 pub stopped_keeps : (told : Type 0) (Is : List ℕ → Type 0) (lists : Lists) (old mid new : World) → KeepsPorts told IsModelOrProof old mid → StopsWriting told Is lists mid new → KeepsPorts told IsModelOrProof old new
 stopped_keeps told Is lists old mid new a stops = keeps_then told IsModelOrProof old mid new a (stopped_writing told Is lists mid new stops)
-
-pub bound_keeps_one : (told : Type 0) (i m q : List ℕ) (old new : World) → KeepsPorts told (IsAt Instance) old new → KeepsOtherPorts told (Some (bound i m q)) old new
-bound_keeps_one told i m q old new a = record { others = keeps_fewer told (IsAt Instance) (IsPortOf (Some (bound i m q))) old new (λ p e. inl (inl e)) a }
-
-pub bound_keeps_two : (told : Type 0) (i m q : List ℕ) (old mid new : World) → KeepsPorts told (IsAt Instance) old mid → KeepsPorts told IsModelOrProof mid new → KeepsOtherPorts told (Some (bound i m q)) old new
-bound_keeps_two told i m q old mid new a b = record { others = then_at told (IsAt Instance) IsModelOrProof (IsPortOf (Some (bound i m q))) old mid new (λ p e. inl (inl e)) (λ p e. inr (inl (of_both m q p e))) a b }
-
-pub quick_keeps_one : (told : Type 0) (i m q : List ℕ) (old new : World) → KeepsPorts told (IsAt Instance) old new → KeepsOtherPorts told (Some (quick i m q)) old new
-quick_keeps_one told i m q old new a = record { others = keeps_fewer told (IsAt Instance) (IsPortOf (Some (quick i m q))) old new (λ p e. inl (inl e)) a }
-
-pub quick_keeps_two : (told : Type 0) (i m q : List ℕ) (old mid new : World) → KeepsPorts told (IsAt Instance) old mid → KeepsPorts told IsModelOrProof mid new → KeepsOtherPorts told (Some (quick i m q)) old new
-quick_keeps_two told i m q old mid new a b = record { others = then_at told (IsAt Instance) IsModelOrProof (IsPortOf (Some (quick i m q))) old mid new (λ p e. inl (inl e)) (λ p e. inr (inl (of_both m q p e))) a b }
 
 -- ---- the report
 

@@ -1,12 +1,12 @@
 -- What a run that is done says of a proof.
-use Rattle.std.proofs.Common.{◌≡◌, ℕ, List, length, flat_map, Option, Some, None, IfSome, Result, Ok, Err, IsTrue, option_map, refl, sym, ◌∙◌, ap, subst, inl, inr, ℤ, pos, neg_ℤ, ◌≤ℤ◌}
-use Rattle.hrt_base.specs.declared.port.Port.TheVariants.{Report}
+use Rattle.std.proofs.Common.{◌≡◌, ℕ, List, [], ◌∷◌, length, flat_map, Option, Some, None, IfSome, Result, Ok, IsTrue, option_map, refl, ◌∙◌, ap, subst, inl, inr, ℤ, pos, neg_ℤ, ◌≤ℤ◌}
+use Rattle.hrt_base.specs.declared.port.Port.TheVariants.{Model, Proof, Report}
 use Rattle.hrt_base.specs.World.{World}
 use Rattle.rank_tables.specs.Instance.{Lists}
 use Rattle.rank_tables.specs.Stability.{is_weakly_stable}
 use Rattle.plain_enumeration.proofs.Existence.{stable_exists}
 use Rattle.pb_rows.specs.Formula.{Formula}
-use Rattle.stability_model.specs.Model.{formula}
+use Rattle.stability_model.specs.Model.{formula as formula_of}
 use Rattle.opb_text.specs.Refusal.{Spells as SpellsFormula, lines_of}
 use Rattle.opb_text.specs.Statements.{rows_in, statements}
 use Rattle.proof_lines.specs.declared.line.Claim.{Claim}
@@ -17,64 +17,54 @@ use Rattle.proof_rules.specs.Texts as text
 use Rattle.proof_rules.specs.Texts.{IsValidText}
 use Rattle.proof_rules.proofs.Matchings.{all_rise, verified_bounds}
 use Rattle.proof_rules.proofs.Verdicts.{texts_sound}
-use Rattle.hrt_inputs.specs.declared.limit.Limit.TheVariants.{Pairs}
-use Rattle.hrt_inputs.specs.Rejections.{Rejection, proof_refused, truncated}
-use Rattle.hrt_inputs.specs.Taken.{formula_in, formula_of_instance, lists_in, model_of, of_few_terms, within}
-use Rattle.hrt_inputs.proofs.ReadInstances.{taken_spelled}
+use Rattle.hrt_inputs.specs.declared.limit.Limit.TheVariants as limit
+use Rattle.hrt_inputs.specs.Rejections.{Rejection}
+use Rattle.hrt_inputs.specs.Taken.{formula_in}
 use Rattle.hrt_inputs.proofs.ReadModels.{model_spelled}
-use Rattle.hrt_cli.specs.declared.status.Status.{Status}
-use Rattle.hrt_cli.specs.Reports.{IsReport, sizes_report, verify_report}
-use Rattle.hrt_cli.specs.Requests.{Request, check, verify}
-use Rattle.hrt_cli.specs.Runs.{EndsAs, PrintsClaim, PrintsSizes}
-use Rattle.hrt_cli.specs.Statuses.{code_of, status_of}
-use Rattle.hrt_cli.specs.Verdicts.{ComesTo, OnFormula, ProofComesTo, Verdict, checked, on_verdict, rejected, verified}
-use Rattle.hrt_cli.proofs.Codes.{rejected_not_done, reported, zero_has_report}
+use Rattle.hrt_cli.specs.Outcomes.{Comes, checked, verified}
+use Rattle.hrt_cli.specs.Plans as plan
+use Rattle.hrt_cli.specs.Plans.{Files, ReadsProof, ReadsTo, Reads, Value, claim, formula, input, judged_as, model, proof}
+use Rattle.hrt_cli.specs.Reports.{sizes_report, verify_report}
+use Rattle.hrt_cli.specs.Requests.{check, verify}
+use Rattle.hrt_cli.specs.Runs.{IsDecided, PrintsClaim, PrintsSizes}
+use Rattle.hrt_cli.proofs.Inputs.{apart, ok_is, takes_first}
+use Rattle.hrt_cli.proofs.Printed.{done, has_instance, reported_as, value_of}
 
 -- ---- a proof that is accepted
 
--- the formula is taken, and this claim has a valid proof
-record IsAccepted (done : Claim → Verdict) (taken : Result Formula Rejection) (verdict : Verdict) : Type 0 where
-  formula : Formula
-  is : taken ≡ Ok formula
-  claim : Claim
-  due : verdict ≡ done claim
-  bytes : List ℕ
-  valid : IsValidText formula bytes claim
+-- the value is a claim that has a valid proof
+record IsAccepted (f : Formula) (bytes : List ℕ) (value : Value) : Type 0 where
+  says : Claim
+  is : value ≡ claim says
+  valid : IsValidText f bytes says
 
-rejected_apart : (rejection : Rejection) (verdict : Verdict) → verdict ≡ rejected rejection → code_of (status_of verdict) ≡ 0 → ⊥
-rejected_apart rejection verdict is e = rejected_not_done rejection (ap (λ (v : Verdict). code_of (status_of v)) (sym is) ∙ e)
-
-judged_accepted : (done : Claim → Verdict) (f : Formula) (bytes : List ℕ) (verdict : Verdict) (judged : text.Verdict) → text.HasVerdict f bytes judged → verdict ≡ on_verdict done judged
-    → code_of (status_of verdict) ≡ 0 → IsAccepted done (Ok f) verdict
-judged_accepted done f bytes verdict (text.Accepted claim) has is e = record { formula = f; is = refl; claim = claim; due = is; bytes = bytes; valid = has }
-judged_accepted done f bytes verdict (text.Refused r) has is e = absurd (rejected_apart (proof_refused r) verdict is e)
-judged_accepted done f bytes verdict text.Truncated has is e = absurd (rejected_apart truncated verdict is e)
-
-proof_accepted : (done : Claim → Verdict) (f : Formula) (bytes : List ℕ) (verdict : Verdict) → ProofComesTo done f bytes verdict → code_of (status_of verdict) ≡ 0 → IsAccepted done (Ok f) verdict
-proof_accepted done f bytes verdict (inl long) e = absurd (rejected_apart _ verdict long.1 e)
-proof_accepted done f bytes verdict (inr judged) e = judged_accepted done f bytes verdict judged.judged judged.has judged.due e
-
-accepted : (done : Claim → Verdict) (taken : Result Formula Rejection) (proof : Option (List ℕ)) (verdict : Verdict) → OnFormula done taken proof verdict → code_of (status_of verdict) ≡ 0 → IsAccepted done taken verdict
-accepted done (Err rejection) proof verdict on e = absurd (rejected_apart rejection verdict on e)
-accepted done (Ok f) proof verdict on e = proof_accepted done f on.0 verdict on.2 e
-
--- ---- the instance
-
-abbrev taken_as : Formula → Result Formula Rejection
-taken_as f = Ok f
-
--- the lists of the model
-record IsModelTaken (r : Result Lists Rejection) (f : Formula) : Type 0 where
-  lists : Lists
-  is : r ≡ Ok lists
-  model : formula lists ≡ f
-
-model_taken : (r : Result Lists Rejection) (f : Formula) → model_of r ≡ taken_as f → IsModelTaken r f
-model_taken (Err rejection) f e = absurd (cc)
-model_taken (Ok lists) f e = record { lists = lists; is = refl; model = same (formula lists) f e }
+accepted : (f : Formula) (bytes : List ℕ) (value : Value) → ReadsProof f bytes (Ok value) → IsAccepted f bytes value
+accepted f bytes value (inl long) = absurd (apart {E = Rejection} value _ long.1)
+accepted f bytes value (inr judged) = by judged.judged judged.has judged.due
   where
-    same : (g h : Formula) → taken_as g ≡ taken_as h → g ≡ h
-    same g h e = cc
+    by : (v : text.Verdict) → text.HasVerdict f bytes v → ◌≡◌ {A = Result Value Rejection} (Ok value) (judged_as v) → IsAccepted f bytes value
+    by (text.Accepted c) has e = record { says = c; is = ok_is {E = Rejection} value (claim c) e; valid = has }
+    by (text.Refused r) has e = absurd (cc)
+    by text.Truncated has e = absurd (cc)
+
+-- behind these values a proof for this formula was read
+record HasProof (first : Value) (f : Formula) (values : List Value) : Type 0 where
+  bytes : List ℕ
+  says : Claim
+  valid : IsValidText f bytes says
+  values_are : values ≡ first ∷ claim says ∷ []
+
+has_proof : (first : Value) (f : Formula) (name : List ℕ) (files : Files) (values : List Value) → ((bytes : List ℕ) (value : Value) → Reads proof (first ∷ []) bytes (Ok value) → ReadsProof f bytes (Ok value))
+    → ReadsTo (input Proof proof name ∷ []) files (first ∷ []) (Ok values) → HasProof first f values
+has_proof first f name files values as_proof reads =
+    let next = takes_first (input Proof proof name) [] files (first ∷ []) values reads in
+    let is = accepted f next.bytes next.value (as_proof next.bytes next.value next.reads) in
+    record {
+      bytes = next.bytes;
+      says = is.says;
+      valid = is.valid;
+      values_are = ok_is {E = Rejection} values (first ∷ next.value ∷ []) next.rest ∙ ap (λ (v : Value). first ∷ v ∷ []) is.is;
+    }
 
 -- ---- the sizes that are printed
 
@@ -105,19 +95,20 @@ true_sizes lists (Bounds l u) text says is = record {
 true_sizes lists Unsat text says is = let some = stable_exists lists in absurd (says some.0 some.1)
 true_sizes lists Nothing text says is = record { bound = None; found = None; report = is; most = tt; some = tt }
 
-prints_sizes : (i p : List ℕ) (old new : World) (verdict : Verdict) → ComesTo (Some (verify i p)) old.content.file verdict → code_of (status_of verdict) ≡ 0 → IsReport verdict (new.content.sent Report)
-    → PrintsSizes i old.content new.content
-prints_sizes i p old new verdict comes e report =
-    let proved = accepted verified (formula_of_instance comes.0) (old.content.file p) verdict comes.2 e in
-    let model = model_taken (of_few_terms (within Pairs (lists_in comes.0))) proved.formula proved.is in
-    let valid = subst (λ (f : Formula). IsValidText f proved.bytes proved.claim) (sym model.model) proved.valid in
-    let sizes = true_sizes model.lists proved.claim (new.content.sent Report) (verified_bounds model.lists proved.bytes proved.claim valid)
-    (subst (λ (v : Verdict). IsReport v (new.content.sent Report)) proved.due report) in
+pub sizes : (i p : List ℕ) (old new : World) → IsDecided (Some (verify i p)) 0 old new → PrintsSizes i old.content new.content
+sizes i p old new is =
+    let run = done (Some (verify i p)) 0 old new refl is in
+    let found = has_instance limit.Pairs i (input Proof proof p ∷ []) old.content.file run.values run.reads in
+    let l = found.lists_are in
+    let proved = has_proof (plan.lists l) (formula_of l) p old.content.file run.values (λ bytes value reads. reads) found.reads in
+    let due : run.outcome ≡ verified proved.says = subst (λ (values : List Value). Comes plan.verify values run.outcome) proved.values_are run.comes in
+    let sizes = true_sizes l proved.says (new.content.sent Report) (verified_bounds l proved.bytes proved.says proved.valid)
+    (reported_as run.outcome (verified proved.says) (new.content.sent Report) due run.report) in
     record {
-      bytes = comes.0;
-      file = comes.1;
-      lists = model.lists;
-      spelled = taken_spelled comes.0 model.lists model.is;
+      bytes = found.bytes;
+      file = found.file;
+      lists = l;
+      spelled = found.spelled;
       bound = sizes.bound;
       found = sizes.found;
       report = sizes.report;
@@ -130,31 +121,21 @@ prints_sizes i p old new verdict comes e report =
 normal_rows : (bytes : List ℕ) (f : Formula) → SpellsFormula bytes f → HasNormalRows f
 normal_rows bytes f spelled = subst HasNormalRows spelled.says (all_rise (flat_map rows_in (statements (lines_of bytes))))
 
-prints_claim : (m p : List ℕ) (old new : World) (verdict : Verdict) → ComesTo (Some (check m p)) old.content.file verdict → code_of (status_of verdict) ≡ 0 → IsReport verdict (new.content.sent Report)
-    → PrintsClaim m old.content new.content
-prints_claim m p old new verdict comes e report =
-    let proved = accepted checked (formula_in comes.0) (old.content.file p) verdict comes.2 e in
-    let spelled = model_spelled comes.0 proved.formula proved.is in
+pub claimed : (m p : List ℕ) (old new : World) → IsDecided (Some (check m p)) 0 old new → PrintsClaim m old.content new.content
+claimed m p old new is =
+    let run = done (Some (check m p)) 0 old new refl is in
+    let first = takes_first (input Model model m) (input Proof proof p ∷ []) old.content.file [] run.values run.reads in
+    let read = value_of formula (formula_in first.bytes) first.value first.reads in
+    let rest = subst (λ (v : Value). ReadsTo (input Proof proof p ∷ []) old.content.file (v ∷ []) (Ok run.values)) read.2 first.rest in
+    let proved = has_proof (formula read.0) read.0 p old.content.file run.values (λ bytes value reads. reads) rest in
+    let due : run.outcome ≡ checked proved.says = subst (λ (values : List Value). Comes plan.check values run.outcome) proved.values_are run.comes in
+    let spelled = model_spelled first.bytes read.0 read.1 in
     record {
-      bytes = comes.0;
-      file = comes.1;
-      formula = proved.formula;
+      bytes = first.bytes;
+      file = first.file;
+      formula = read.0;
       spelled = spelled;
-      claim = proved.claim;
-      report = subst (λ (v : Verdict). IsReport v (new.content.sent Report)) proved.due report;
-      is_true = texts_sound proved.formula proved.bytes proved.claim (normal_rows comes.0 proved.formula spelled) proved.valid;
+      claim = proved.says;
+      report = reported_as run.outcome (checked proved.says) (new.content.sent Report) due run.report;
+      is_true = texts_sound read.0 proved.bytes proved.says (normal_rows first.bytes read.0 spelled) proved.valid;
     }
-
--- ---- runs that are done
-
-pub sizes : (told : Type 0) (request : Option Request) (status : Status) (old new : World) → EndsAs told request status old new → told → code_of status ≡ 0
-    → (i p : List ℕ) → request ≡ Some (verify i p) → PrintsSizes i old.content new.content
-sizes told request status old new ends t e i p is =
-    let told_of = (reported told request status old new ends (zero_has_report (code_of status) e)).reported t in
-    prints_sizes i p old new told_of.verdict (subst (λ (r : Option Request). ComesTo r old.content.file told_of.verdict) is told_of.due) (ap code_of (sym told_of.answered) ∙ e) told_of.report
-
-pub claim : (told : Type 0) (request : Option Request) (status : Status) (old new : World) → EndsAs told request status old new → told → code_of status ≡ 0
-    → (m p : List ℕ) → request ≡ Some (check m p) → PrintsClaim m old.content new.content
-claim told request status old new ends t e m p is =
-    let told_of = (reported told request status old new ends (zero_has_report (code_of status) e)).reported t in
-    prints_claim m p old new told_of.verdict (subst (λ (r : Option Request). ComesTo r old.content.file told_of.verdict) is told_of.due) (ap code_of (sym told_of.answered) ∙ e) told_of.report

@@ -4,7 +4,8 @@ use Rattle.std.proofs.lemmas.List.{length-map}
 use Rattle.hrt_base.specs.declared.failure.WriteEnd.{WriteEnd}
 use Rattle.hrt_base.specs.declared.failure.WriteEnd.TheVariants as end
 use Rattle.hrt_base.specs.declared.numbered.PairNo.{PairNo}
-use Rattle.hrt_base.specs.Calls.{AtStart, Rose}
+use Rattle.hrt_base.specs.declared.port.Port.{Port}
+use Rattle.hrt_base.specs.Calls.{Rose}
 use Rattle.hrt_base.specs.World.{World}
 use Rattle.rank_tables.specs.Instance.{Lists}
 use Rattle.rank_tables.specs.Tables.{numbers_of}
@@ -13,171 +14,139 @@ use Rattle.promotion_heuristic.specs.Promotion.{promotion}
 use Rattle.hrt_solve.specs.declared.ends.SolveEnd.{SolveEnd}
 use Rattle.hrt_solve.specs.Gauged.{AreNumbersOf, bound_claim}
 use Rattle.hrt_solve.specs.Writing.{IsBoundText, IsProof, IsQuickEnd, IsQuickText}
-use Rattle.hrt_inputs.specs.declared.limit.Limit.TheVariants as limit
-use Rattle.hrt_inputs.specs.Loading.{IsLoaded}
-use Rattle.hrt_inputs.specs.Taken.{taken_lists}
-use Rattle.hrt_inputs.specs.Rejections.{Rejection}
+use Rattle.hrt_inputs.specs.Inputs.{KeepsPorts}
+use Rattle.hrt_inputs.proofs.KeptPorts.{keeps_fewer}
 use Rattle.hrt_cli.specs.declared.answer.Answer.{Answer}
 use Rattle.hrt_cli.specs.declared.status.Status.TheVariants as status
 use Rattle.hrt_cli.specs.declared.stop.Ended.{Ended}
 use Rattle.hrt_cli.specs.declared.stop.Ended.TheVariants as ended
-use Rattle.hrt_cli.specs.Answers.{EndsEarly, HasOutputs, IsAnswer, IsWorked, LeavesFronts, is_verdict_of}
+use Rattle.hrt_cli.specs.Answers.{IsAnswer, Serves}
+use Rattle.hrt_cli.specs.Outcomes.{Comes, Outcome, ProofDue, bounded, first_claim, matched}
 use Rattle.hrt_cli.specs.Outputs.{Output, both, outputs_of}
+use Rattle.hrt_cli.specs.Plans as plan
+use Rattle.hrt_cli.specs.Plans.{AreSome, IsWritePort, plan_of}
+use Rattle.hrt_cli.specs.Ports.{BeginsWriting, IsModelOrProof}
 use Rattle.hrt_cli.specs.Reports.{count_line, end_lines, found_lines, last_line, line, pair_line}
 use Rattle.hrt_cli.specs.Requests.{Request, bound, quick}
-use Rattle.hrt_cli.specs.Plans.{AreTaken, Files, instance_in}
-use Rattle.hrt_cli.specs.Verdicts.{BoundDue, ComesTo, MatchDue, OnInstance, OnLists, ProofDue, Verdict, bounded, first_claim, matched, rejected}
-use Rattle.hrt_cli.specs.Statuses.{status_of}
-use Rattle.hrt_cli.specs.Writing.{SavesFronts, SavesInPart, SavesProof, WritesAll, WritesFronts, ended_by}
-use Rattle.hrt_cli.proofs.WrittenOutputs.{Writer, nothing_left, outputs_end, outputs_left, outputs_worked}
+use Rattle.hrt_cli.specs.Statuses.{code_of, is_told_of}
+use Rattle.hrt_cli.specs.Writing.{SavesInPart, SavesProof, WritesAll, WritesFronts, ended_by}
+use Rattle.hrt_cli.proofs.BegunPorts.{begins_more, of_both}
+use Rattle.hrt_cli.proofs.Reading.{HasRead}
+use Rattle.hrt_cli.proofs.Serving.{IsFinished, IsGivenUp, IsInPart, served}
 
--- ---- a command by its files
-
--- a request for a proof, what the proof claims by the ceiling, and what is due
-pub record Prover : Type 0 where
+-- a request that reads the instance and writes its model and a proof, what the proof claims by the ceiling, and what is due
+pub record Prover (l : Lists) : Type 0 where
   pub request : Option Request
-  pub instance : List ℕ
   pub name : List ℕ
   pub proof : List ℕ
-  pub claim : Lists → ℕ → Claim
-  pub done : Lists → ℕ → ℕ → List ℕ → Verdict
-  pub is_done : (lists : Lists) (deleted top : ℕ) (text : List ℕ) → IsTrue (is_verdict_of request (status_of (done lists deleted top text)))
-  pub comes_to : (files : Files) (verdict : Verdict) → OnInstance (λ lists v. ProofDue (claim lists) (done lists) lists v) (files instance) verdict → ComesTo request files verdict
-  pub outputs : (lists : Lists) (deleted top : ℕ) (text : List ℕ) → outputs_of request (done lists deleted top text) ≡ both name proof lists text
-  pub has_outputs : (files : Files) → AreTaken (instance_in instance ∷ []) files → HasOutputs request files
+  pub claim : ℕ → Claim
+  pub done : ℕ → ℕ → List ℕ → Outcome
+  pub comes : (due : Outcome) → ProofDue claim done l due → Comes (plan_of request).job (plan.lists l ∷ []) due
+  pub suits : (deleted top : ℕ) (text : List ℕ) → IsTrue (is_told_of request (code_of (done deleted top text).status))
+  pub outputs : (deleted top : ℕ) (text : List ℕ) → outputs_of request (done deleted top text).texts ≡ both name proof l text
+  pub some : AreSome (plan_of request).outputs
+  pub ports : (port : Port) → IsModelOrProof port → IsWritePort (plan_of request).outputs port
 
-abbrev pub bounding : List ℕ → List ℕ → List ℕ → Prover
-bounding i m p = record {
+abbrev pub bounding : List ℕ → List ℕ → List ℕ → (l : Lists) → Prover l
+bounding i m p l = record {
   request = Some (bound i m p);
-  instance = i;
   name = m;
   proof = p;
-  claim = λ lists. bound_claim;
-  done = bounded;
-  is_done = λ lists deleted top text. refl;
-  comes_to = λ files verdict on. on;
-  outputs = λ lists deleted top text. refl;
-  has_outputs = λ files taken. (tt, taken);
+  claim = bound_claim;
+  done = bounded l;
+  comes = λ due is. is;
+  suits = λ deleted top text. refl;
+  outputs = λ deleted top text. refl;
+  some = tt;
+  ports = of_both m p;
 }
 
-pub match_suits : (i m p : List ℕ) (b : Bool) → IsTrue (is_verdict_of (Some (quick i m p)) (cond b status.Done status.Bounded))
+pub match_suits : (i m p : List ℕ) (b : Bool) → IsTrue (is_told_of (Some (quick i m p)) (code_of (cond b status.Done status.Bounded)))
 match_suits i m p true = refl
 match_suits i m p false = refl
 
-abbrev pub matching : List ℕ → List ℕ → List ℕ → Prover
-matching i m p = record {
+abbrev pub matching : List ℕ → List ℕ → List ℕ → (l : Lists) → Prover l
+matching i m p l = record {
   request = Some (quick i m p);
-  instance = i;
   name = m;
   proof = p;
-  claim = first_claim;
-  done = matched;
-  is_done = λ lists deleted top text. match_suits i m p (length (promotion lists) == top);
-  comes_to = λ files verdict on. on;
-  outputs = λ lists deleted top text. refl;
-  has_outputs = λ files taken. (tt, taken);
+  claim = first_claim l;
+  done = matched l;
+  comes = λ due is. is;
+  suits = λ deleted top text. match_suits i m p (length (promotion l) == top);
+  outputs = λ deleted top text. refl;
+  some = tt;
+  ports = of_both m p;
 }
-
-pub refused_on : (Due : Lists → Verdict → Type 0) (files : Files) (i bytes : List ℕ) (rejection : Rejection) → files i ≡ Some bytes → taken_lists bytes ≡ Err rejection
-    → OnInstance Due (files i) (rejected rejection)
-refused_on Due files i bytes rejection file is = (bytes, file, subst (λ (r : Result Lists Rejection). OnLists Due r (rejected rejection)) (sym is) refl)
-
-abbrev pub bound_writer : List ℕ → List ℕ → List ℕ → Writer
-bound_writer i m p = record {
-  request = Some (bound i m p);
-  instance = i;
-  no_outputs = λ rejection. refl;
-  refuses = λ files bytes rejection file is. refused_on BoundDue files i bytes rejection file is;
-  has_outputs = λ files taken. (tt, taken);
-  asks = refl;
-  reads = refl;
-}
-
-abbrev pub quick_writer : List ℕ → List ℕ → List ℕ → Writer
-quick_writer i m p = record {
-  request = Some (quick i m p);
-  instance = i;
-  no_outputs = λ rejection. refl;
-  refuses = λ files bytes rejection file is. refused_on MatchDue files i bytes rejection file is;
-  has_outputs = λ files taken. (tt, taken);
-  asks = refl;
-  reads = refl;
-}
-
--- ---- what is answered
 
 -- the numbers of the instance and a proof of what is claimed
-pub record IsProven (prover : Prover) (lists : Lists) (text : List ℕ) : Type 0 where
+pub record IsProven (claim : ℕ → Claim) (l : Lists) (text : List ℕ) : Type 0 where
   pub deleted : ℕ
   pub top : ℕ
-  pub numbers : AreNumbersOf lists deleted top
-  pub is_proof : IsProof lists text (prover.claim lists top) 0
+  pub numbers : AreNumbersOf l deleted top
+  pub is_proof : IsProof l text (claim top) 0
 
-module _ (told : Type 0) (prover : Prover) (lists : Lists) (old mid new : World) (start : AtStart told old) (loaded : IsLoaded told prover.instance limit.Pairs lists old mid) where
-  due : (text : List ℕ) (deleted top : ℕ) → AreNumbersOf lists deleted top → IsProof lists text (prover.claim lists top) 0 → told → ComesTo prover.request old.content.file (prover.done lists deleted top text)
-  due text deleted top numbers is_proof t =
-      let file = loaded.spelled t in
-      prover.comes_to old.content.file (prover.done lists deleted top text) (
-        file.0,
-        file.1,
-        subst (λ (r : Result Lists Rejection). OnLists (λ (l : Lists) (v : Verdict). ProofDue (prover.claim l) (prover.done l) l v) r (prover.done lists deleted top text)) (sym file.2)
-            (record { deleted = deleted; top = top; text = text; numbers = numbers; is_proof = is_proof; is = refl }),
-      )
+pub bound_proven : (l : Lists) (text : List ℕ) → IsBoundText l text → IsProven bound_claim l text
+bound_proven l text is = record { deleted = is.deleted; top = is.top; numbers = is.numbers; is_proof = is.is_proof }
 
-  module _ (deleted top : ℕ) (saved : SavesProof told (prover.claim lists top) lists deleted top prover.name prover.proof mid new) where
-    answers : (answer : Answer) → ((text : List ℕ) → IsAnswer (prover.done lists deleted top text) answer) → IsWorked told prover.request answer old new
-    answers answer answered =
-        outputs_worked told prover.instance lists old mid start loaded prover.request (prover.done lists deleted top saved.text) answer new
-        (subst (λ (os : List Output). WritesAll told os mid new) (sym (prover.outputs lists deleted top saved.text)) saved.saved) (due saved.text deleted top saved.numbers saved.is_proof)
-        (prover.is_done lists deleted top saved.text) (answered saved.text)
+pub match_proven : (l : Lists) (text : List ℕ) → IsQuickText l text → IsProven (first_claim l) l text
+match_proven l text is = record { deleted = is.deleted; top = is.top; numbers = is.numbers; is_proof = is.is_proof }
 
-    pub prover_answers : (r : Result Answer Ended) → IfOk r (λ answer. (text : List ℕ) → IsAnswer (prover.done lists deleted top text) answer) → IfOk r (λ answer. IsWorked told prover.request answer old new)
-    prover_answers (Ok answer) answered = answers answer answered
-    prover_answers (Err why) answered = tt
+module _ (told : Type 0) (l : Lists) (prover : Prover l) (old mid new : World) (read : HasRead told (plan_of prover.request).inputs (plan.lists l ∷ []) old mid)
+    (begins : BeginsWriting IsModelOrProof mid new) (keeps : KeepsPorts told IsModelOrProof mid new) where
+  due : (text : List ℕ) (deleted top : ℕ) → AreNumbersOf l deleted top → IsProof l text (prover.claim top) 0 → Comes (plan_of prover.request).job (plan.lists l ∷ []) (prover.done deleted top text)
+  due text deleted top numbers is_proof = prover.comes (prover.done deleted top text) (record { deleted = deleted; top = top; text = text; numbers = numbers; is_proof = is_proof; is = refl })
 
-    -- the outputs are whole, and memory is wanting for the report
-    wanting : told → LeavesFronts prover.request old.content new.content
-    wanting = outputs_left told prover.instance lists old mid start loaded prover.request (prover.done lists deleted top saved.text) new
-        (subst (λ (os : List Output). WritesFronts told os mid new) (sym (prover.outputs lists deleted top saved.text)) (record { whole = 2; count = 0; writes = saved.saved.writes }))
-        (due saved.text deleted top saved.numbers saved.is_proof)
+  serves : (r : Result Answer Ended) → IfOk r (λ answer. IsFinished told prover.request (plan.lists l ∷ []) answer mid new) → IfErr r (λ why. IsGivenUp told prover.request (plan.lists l ∷ []) why mid new)
+      → Serves told prover.request r old new
+  serves r is up = served told prover.request (plan.lists l ∷ []) old mid new read r
+      (begins_more IsModelOrProof (IsWritePort (plan_of prover.request).outputs) mid new prover.ports begins)
+      (keeps_fewer told IsModelOrProof (IsWritePort (plan_of prover.request).outputs) mid new prover.ports keeps) is up
 
-    pub prover_wants : (r : Result Answer Ended) → IfErr r (λ why. why ≡ ended.NoMemory) → IfErr r (λ why. EndsEarly told prover.request why old new)
-    prover_wants (Ok answer) is = tt
-    prover_wants (Err why) is = subst (λ (w : Ended). EndsEarly told prover.request w old new) (sym is) wanting
+  -- the model and the proof are written, and the answer or want of memory follows
+  pub proved : (deleted top : ℕ) (r : Result Answer Ended) → SavesProof told (prover.claim top) l deleted top prover.name prover.proof mid new
+      → IfOk r (λ answer. (text : List ℕ) → IsAnswer (prover.done deleted top text) answer) → IfErr r (λ why. why ≡ ended.NoMemory) → Serves told prover.request r old new
+  proved deleted top r saved answers wants = serves r (ok r answers) (err r wants)
+    where
+      ok : (x : Result Answer Ended) → IfOk x (λ answer. (text : List ℕ) → IsAnswer (prover.done deleted top text) answer) → IfOk x (λ answer. IsFinished told prover.request (plan.lists l ∷ []) answer mid new)
+      ok (Ok answer) answered = record {
+        outcome = prover.done deleted top saved.text;
+        comes = due saved.text deleted top saved.numbers saved.is_proof;
+        suits = prover.suits deleted top saved.text;
+        answered = answered saved.text;
+        writes = subst (λ (os : List Output). WritesAll told os mid new) (sym (prover.outputs deleted top saved.text)) saved.saved;
+      }
+      ok (Err why) answered = tt
 
-  -- ---- outputs that are cut short
+      whole : IsInPart told prover.request (plan.lists l ∷ []) mid new
+      whole = inr (record {
+        outcome = prover.done deleted top saved.text;
+        comes = due saved.text deleted top saved.numbers saved.is_proof;
+        fronts = subst (λ (os : List Output). WritesFronts told os mid new) (sym (prover.outputs deleted top saved.text)) (record { whole = 2; count = 0; writes = saved.saved.writes });
+      })
 
-  fronts_left : (Is : List ℕ → Type 0) → ((text : List ℕ) → Is text → IsProven prover lists text) → SavesFronts told Is lists prover.name prover.proof mid new → told → LeavesFronts prover.request old.content new.content
-  fronts_left Is proves part =
-      let proven = proves part.text part.is in
-      outputs_left told prover.instance lists old mid start loaded prover.request (prover.done lists proven.deleted proven.top part.text) new
-      (subst (λ (os : List Output). WritesFronts told os mid new) (sym (prover.outputs lists proven.deleted proven.top part.text)) part.fronts)
-      (due part.text proven.deleted proven.top proven.numbers proven.is_proof)
+      err : (x : Result Answer Ended) → IfErr x (λ why. why ≡ ended.NoMemory) → IfErr x (λ why. IsGivenUp told prover.request (plan.lists l ∷ []) why mid new)
+      err (Ok answer) e = tt
+      err (Err why) e = subst (λ (w : Ended). IsGivenUp told prover.request (plan.lists l ∷ []) w mid new) (sym e) whole
 
-  not_read : (e : WriteEnd) → ended_by e ≡ ended.ReadFault → ⊥
-  not_read end.Failed is = absurd (cc)
-  not_read end.NoMemory is = absurd (cc)
+  -- they are written in part
+  pub unproved : (Is : List ℕ → Type 0) (e : WriteEnd) (why : Ended) → why ≡ ended_by e → ((text : List ℕ) → Is text → IsProven prover.claim l text) → SavesInPart told Is l prover.name prover.proof mid new
+      → (e ≡ end.Failed → Rose mid.write_faults new.write_faults) → Serves told prover.request (Err why) old new
+  unproved Is e why is proves saved rose = serves (Err why) tt (subst (λ (w : Ended). IsGivenUp told prover.request (plan.lists l ∷ []) w mid new) (sym is) (by e rose (part saved)))
+    where
+      part : SavesInPart told Is l prover.name prover.proof mid new → IsInPart told prover.request (plan.lists l ∷ []) mid new
+      part (inl nothing) = inl nothing
+      part (inr fronts) =
+          let proven = proves fronts.text fronts.is in
+          inr (record {
+            outcome = prover.done proven.deleted proven.top fronts.text;
+            comes = due fronts.text proven.deleted proven.top proven.numbers proven.is_proof;
+            fronts = subst (λ (os : List Output). WritesFronts told os mid new) (sym (prover.outputs proven.deleted proven.top fronts.text)) fronts.fronts;
+          })
 
-  failing : (e : WriteEnd) → ended_by e ≡ ended.WriteFault → e ≡ end.Failed
-  failing end.Failed is = refl
-  failing end.NoMemory is = absurd (cc)
-
-  pub prover_ends : (Is : List ℕ → Type 0) (e : WriteEnd) → ((text : List ℕ) → Is text → IsProven prover lists text) → SavesInPart told Is lists prover.name prover.proof mid new
-      → (e ≡ end.Failed → Rose mid.write_faults new.write_faults) → EndsEarly told prover.request (ended_by e) old new
-  prover_ends Is e proves (inl nothing) rose =
-      outputs_end told prover.instance lists old mid start loaded prover.request _ _ (ended_by e) new nothing (prover.has_outputs old.content.file)
-      (nothing_left told prover.instance lists old mid start loaded prover.request new nothing) (not_read e) (λ is. rose (failing e is))
-  prover_ends Is e proves (inr part) rose =
-      outputs_end told prover.instance lists old mid start loaded prover.request _ _ (ended_by e) new part.fronts.writes (prover.has_outputs old.content.file)
-      (fronts_left Is proves part) (not_read e) (λ is. rose (failing e is))
-
--- ---- the two commands
-
-pub bound_proven : (i m p : List ℕ) (lists : Lists) (text : List ℕ) → IsBoundText lists text → IsProven (bounding i m p) lists text
-bound_proven i m p lists text is = record { deleted = is.deleted; top = is.top; numbers = is.numbers; is_proof = is.is_proof }
-
-pub match_proven : (i m p : List ℕ) (lists : Lists) (text : List ℕ) → IsQuickText lists text → IsProven (matching i m p) lists text
-match_proven i m p lists text is = record { deleted = is.deleted; top = is.top; numbers = is.numbers; is_proof = is.is_proof }
+      by : (x : WriteEnd) → (x ≡ end.Failed → Rose mid.write_faults new.write_faults) → IsInPart told prover.request (plan.lists l ∷ []) mid new → IsGivenUp told prover.request (plan.lists l ∷ []) (ended_by x) mid new
+      by end.Failed risen parts = record { some = prover.some; rose = risen refl; part = parts }
+      by end.NoMemory risen parts = parts
 
 -- whether the first matching is as long as the ceiling
 pub first_status : (lists : Lists) (end : SolveEnd) → IsQuickEnd lists end → cond end.best status.Done status.Bounded ≡ cond (length (promotion lists) == end.ceiling) status.Done status.Bounded

@@ -1,12 +1,12 @@
 -- From what a run did to how it ended.
 use Rattle.std.specs.Prelude.{Some, is_none, true}
-use Rattle.std.proofs.Common.{◌≡◌, ℕ, List, [], ◌++◌, ◌⊎◌, take, Option, None, refl, sym, ◌∙◌, ap, subst, arith, inl, inr, IsTrue, codes}
+use Rattle.std.proofs.Common.{◌≡◌, ℕ, List, [], ◌++◌, ◌⊎◌, ◌↔◌, take, Option, None, Result, Ok, refl, sym, ◌∙◌, ap, subst, arith, inl, inr, IsTrue, codes}
 use Rattle.std.proofs.lemmas.Bool.{cases_eq}
 use Rattle.hrt_base.specs.declared.port.Port.{Port}
 use Rattle.hrt_base.specs.declared.port.Port.TheVariants.{Report}
 use Rattle.hrt_base.specs.declared.host.Begun.{Begun}
 use Rattle.hrt_base.specs.declared.host.Begun.TheVariants.{Idle, Reading, Writing}
-use Rattle.hrt_base.specs.Calls.{AtStart, NoFault, SentPart, SentSoFar}
+use Rattle.hrt_base.specs.Calls.{AtStart, SentPart, SentSoFar}
 use Rattle.hrt_base.specs.World.{World, Content, port_no, put, store}
 use Rattle.hrt_base.proofs.Pieces.{port_no-injective, put_here}
 use Rattle.hrt_solve.specs.Writing.{SentWhole}
@@ -14,15 +14,18 @@ use Rattle.hrt_inputs.specs.Inputs.{OnlyRead}
 use Rattle.hrt_inputs.proofs.Ports.{idle_not_writing, put_elsewhere, reading_not_writing}
 use Rattle.hrt_cli.specs.declared.answer.Answer.{Answer}
 use Rattle.hrt_cli.specs.declared.status.Status.{Status}
-use Rattle.hrt_cli.specs.declared.status.Status.TheVariants.{Done, Misused, InstanceRefused, ReadFault, WriteFault, NoMemory, LimitExceeded, ProofRefused, AuditNo, Bounded, PairsRefused}
-use Rattle.hrt_cli.specs.declared.stop.Ended.{Ended}
-use Rattle.hrt_cli.specs.declared.stop.Ended.TheVariants as ended
-use Rattle.hrt_cli.specs.Answers.{CutShort, EndsEarly, GivesUp, IsAnswered, IsReadOut, IsWorked, LeavesFronts, PassedAt, SendsNothing, is_verdict_of}
+use Rattle.hrt_cli.specs.declared.status.Status.TheVariants.{Misused}
+use Rattle.hrt_cli.specs.Answers.{CutShort, EndsEarly, IsReadOut, IsWorked, LeavesFronts, PassedAt, SendsNothing}
 use Rattle.hrt_cli.specs.Outputs.{Output, SendsAll, files_after, outputs_of, text_on}
-use Rattle.hrt_cli.specs.Reports.{IsReport, line}
+use Rattle.hrt_cli.specs.Reports.{line}
+use Rattle.hrt_cli.specs.Plans.{Files, Value, plan_of}
+use Rattle.hrt_cli.specs.Statuses.{code_of, is_told_of}
+use Rattle.hrt_inputs.specs.Rejections.{Rejection}
 use Rattle.hrt_cli.specs.Requests.{Request}
-use Rattle.hrt_cli.specs.Runs.{IsReported, Reported, EndsAs}
-use Rattle.hrt_cli.specs.Verdicts.{Verdict, misused}
+use Rattle.hrt_cli.specs.declared.stop.Ended.{Ended}
+use Rattle.hrt_cli.specs.declared.stop.Ended.TheVariants.{WriteFault}
+use Rattle.hrt_cli.specs.Runs.{GivenUp, Reported}
+use Rattle.hrt_cli.specs.Outcomes.{ComesTo, IsReport, misused}
 
 -- ---- ports
 
@@ -79,28 +82,6 @@ nothing_due outputs old mid none sent files = record {
   files = λ name. files name ∙ ap (λ (os : List Output). files_after os old.file name) (sym none);
 }
 
--- ---- commands that only read
-
-pub read_worked : (told : Type 0) (request : Option Request) (answer : Answer) (old mid : World) → ((v : Verdict) → outputs_of request v ≡ []) → AtStart told old → IsAnswered told request answer old mid
-    → IsWorked told request answer old mid
-read_worked told request answer old mid none start answered =
-    let read = answered.only_read in
-    record {
-      no_fault = record { read_faults = answered.read_faults; write_faults = read.write_faults };
-      open_report = (read.writers Report).1 (report_open told old start);
-      others = λ p writing. writes_report told old start p ((read.writers p).0 writing);
-      suits = answered.suits;
-      due = λ t. let due = answered.due t in record {
-        verdict = due.0;
-        due = due.1;
-        answered = due.2;
-        read_out = due.3;
-        sends = nothing_due (outputs_of request due.0) old.content mid.content (none due.0) (sent_before told old mid start read t) (file_before told old mid read t);
-        silent = sent_before told old mid start read t Report;
-        unnamed = name_before told old mid start read t;
-      };
-    }
-
 pub nothing_after : (told : Type 0) (old mid : World) → AtStart told old → OnlyRead told old mid → told → SendsNothing old.content mid.content
 nothing_after told old mid start read t = record { sent = sent_before told old mid start read t; files = file_before told old mid read t }
 
@@ -110,44 +91,16 @@ leaves_nothing told request old mid start read t = record {
   sends = inl (nothing_after told old mid start read t);
 }
 
-pub read_ends : (told : Type 0) (request : Option Request) (ended : Ended) (old mid : World) → AtStart told old → GivesUp told ended old mid → EndsEarly told request ended old mid
-read_ends told request ended.ReadFault old mid start up = record {
-  rose = up.rose;
-  writers = λ p writing. port_no-injective p Report (writes_report told old start p ((up.only_read.writers p).0 writing));
-  nothing = nothing_after told old mid start up.only_read;
-}
-read_ends told request ended.WriteFault old mid start up = absurd up
-read_ends told request ended.NoMemory old mid start up = leaves_nothing told request old mid start up
-
 -- ---- a report that was sent whole
-
-reported_of : (told : Type 0) (request : Option Request) (status : Status) (old new : World) → (status ≡ Misused → ⊥) → IsTrue (is_verdict_of request status) → (request ≡ None → ⊥)
-    → NoFault old new → ((port : Port) → new.begun port ≡ Writing → ⊥) → (told → IsReported request status old new) → Reported told request status old new
-reported_of told request status old new other suits asked no_fault closed reported = record {
-  no_fault = no_fault;
-  suits = suits;
-  understood = (λ e. absurd (other e), λ e. absurd (asked e));
-  closed = closed;
-  reported = reported;
-}
 
 none_is : (request : Option Request) → is_none request ≡ true → request ≡ None
 none_is None e = refl
 none_is (Some request) e = absurd (cc)
 
-ends_by_verdict : (told : Type 0) (request : Option Request) (status : Status) (old new : World) → IsTrue (is_verdict_of request status) → (request ≡ None → ⊥)
-    → NoFault old new → ((port : Port) → new.begun port ≡ Writing → ⊥) → (told → IsReported request status old new) → EndsAs told request status old new
-ends_by_verdict told request Done old new on asked no_fault closed reported = reported_of told request Done old new (λ e. absurd (cc)) on asked no_fault closed reported
-ends_by_verdict told request Misused old new on asked no_fault closed reported = absurd (asked (none_is request on))
-ends_by_verdict told request InstanceRefused old new on asked no_fault closed reported = reported_of told request InstanceRefused old new (λ e. absurd (cc)) on asked no_fault closed reported
-ends_by_verdict told request ReadFault old new on asked no_fault closed reported = absurd (cc)
-ends_by_verdict told request WriteFault old new on asked no_fault closed reported = absurd (cc)
-ends_by_verdict told request NoMemory old new on asked no_fault closed reported = absurd (cc)
-ends_by_verdict told request LimitExceeded old new on asked no_fault closed reported = reported_of told request LimitExceeded old new (λ e. absurd (cc)) on asked no_fault closed reported
-ends_by_verdict told request ProofRefused old new on asked no_fault closed reported = reported_of told request ProofRefused old new (λ e. absurd (cc)) on asked no_fault closed reported
-ends_by_verdict told request AuditNo old new on asked no_fault closed reported = reported_of told request AuditNo old new (λ e. absurd (cc)) on asked no_fault closed reported
-ends_by_verdict told request Bounded old new on asked no_fault closed reported = reported_of told request Bounded old new (λ e. absurd (cc)) on asked no_fault closed reported
-ends_by_verdict told request PairsRefused old new on asked no_fault closed reported = reported_of told request PairsRefused old new (λ e. absurd (cc)) on asked no_fault closed reported
+-- the words ask for nothing where the run is misused
+understood : (request : Option Request) (status : Status) → IsTrue (is_told_of request (code_of status)) → (request ≡ None → ⊥) → (status ≡ Misused) ↔ (request ≡ None)
+understood request status suits asked =
+    (λ e. none_is request (subst (λ (s : Status). IsTrue (is_told_of request (code_of s))) e suits), λ e. absurd (asked e))
 
 whole_sends : (told : Type 0) (text : List ℕ) (outputs : List Output) (old mid new : World) → SendsAll outputs old.content mid.content → mid.content.name Report ≡ [] → SentWhole told Report text mid new → told
     → SendsAll outputs old.content new.content
@@ -165,7 +118,7 @@ whole_sends told text outputs old mid new sends unnamed sent t = record {
 whole_text : (told : Type 0) (text : List ℕ) (mid new : World) → mid.content.sent Report ≡ [] → SentWhole told Report text mid new → told → new.content.sent Report ≡ text
 whole_text told text mid new silent sent t = ap (λ (c : Content). c.sent Report) (sent.content t) ∙ ap (λ (l : List ℕ). l ++ text) silent
 
-whole_read_out : (told : Type 0) (text : List ℕ) (mid new : World) (v : Verdict) → SentWhole told Report text mid new → told → IsReadOut v mid → IsReadOut v new
+whole_read_out : (told : Type 0) (text : List ℕ) (mid new : World) (v : Result (List Value) Rejection) → SentWhole told Report text mid new → told → IsReadOut v mid → IsReadOut v new
 whole_read_out told text mid new v sent t out p reading = elim (cases_eq (port_no p) (port_no Report)) [
   | inl same ↦
       let e : p ≡ Report = port_no-injective p Report same in
@@ -176,19 +129,21 @@ whole_read_out told text mid new v sent t out p reading = elim (cases_eq (port_n
 ]
 
 pub whole_reported : (told : Type 0) (request : Option Request) (answer : Answer) (old mid new : World) → IsWorked told request answer old mid
-    → SentWhole told Report answer.report mid new → (request ≡ None → ⊥) → EndsAs told request answer.status old new
-whole_reported told request answer old mid new worked sent asked =
-    ends_by_verdict told request answer.status old new worked.suits asked
-    (record { read_faults = sent.read_faults ∙ worked.no_fault.read_faults; write_faults = sent.write_faults ∙ worked.no_fault.write_faults })
-    (closed_after told answer.report mid new worked.others sent)
-    (λ t. let due = worked.due t in record {
-      verdict = due.verdict;
-      due = due.due;
-      answered = due.answered.status;
-      report = subst (IsReport due.verdict) (sym (whole_text told answer.report mid new due.silent sent t)) due.answered.report;
-      read_out = whole_read_out told answer.report mid new due.verdict sent t due.read_out;
-      sends = whole_sends told answer.report (outputs_of request due.verdict) old mid new due.sends due.unnamed sent t;
-    })
+    → SentWhole told Report answer.report mid new → (request ≡ None → ⊥) → Reported told request answer.status old new
+whole_reported told request answer old mid new worked sent asked = record {
+  understood = understood request answer.status worked.suits asked;
+  suits = worked.suits;
+  no_fault = record { read_faults = sent.read_faults ∙ worked.no_fault.read_faults; write_faults = sent.write_faults ∙ worked.no_fault.write_faults };
+  closed = closed_after told answer.report mid new worked.others sent;
+  reported = λ t. let due = worked.due t in record {
+    outcome = due.outcome;
+    due = due.due;
+    answered = due.answered.status;
+    report = subst (IsReport due.outcome.report) (sym (whole_text told answer.report mid new due.silent sent t)) due.answered.report;
+    read_out = whole_read_out told answer.report mid new due.due.read sent t due.read_out;
+    sends = whole_sends told answer.report (outputs_of request due.outcome.texts) old mid new due.sends due.unnamed sent t;
+  };
+}
 
 -- ---- a report of which a front was sent
 
@@ -205,31 +160,41 @@ part_sends told text outputs old mid new sends sent t = record {
 part_text : (told : Type 0) (text : List ℕ) (mid new : World) → mid.content.sent Report ≡ [] → SentSoFar told Report text mid new → told → new.content.sent Report ≡ text
 part_text told text mid new silent sent t = ap (λ (c : Content). c.sent Report) (sent.content t) ∙ ap (λ (l : List ℕ). l ++ text) silent
 
-part_read_out : (told : Type 0) (text : List ℕ) (mid new : World) (v : Verdict) → SentSoFar told Report text mid new → told → IsReadOut v mid → IsReadOut v new
+part_read_out : (told : Type 0) (text : List ℕ) (mid new : World) (v : Result (List Value) Rejection) → SentSoFar told Report text mid new → told → IsReadOut v mid → IsReadOut v new
 part_read_out told text mid new v sent t out p reading =
     let here : mid.begun p ≡ Reading = sym (ap (λ (f : Port → Begun). f p) sent.begun) ∙ reading in
     subst (λ (l : List ℕ). (l ≡ []) ⊎ PassedAt v p) (sym (ap (λ (c : Content). c.rest p) (sent.content t))) (out p here)
 
 pub cut_short : (told : Type 0) (request : Option Request) (answer : Answer) (old mid new : World) → IsWorked told request answer old mid
-    → SentPart told Report answer.report mid new → CutShort told request old new
-cut_short told request answer old mid new worked part = record {
-  rose = let rose = part.rose in let before = worked.no_fault.write_faults in omega arith;
-  cut_short = λ t.
-      let due = worked.due t in
-      let sends = part_sends told (take part.part.0 answer.report) (outputs_of request due.verdict) old mid new due.sends part.part.1 t in
-      inr (record {
-        verdict = due.verdict;
-        due = due.due;
-        text = answer.report;
-        report = due.answered.report;
-        count = part.part.0;
-        front = part_text told (take part.part.0 answer.report) mid new due.silent part.part.1 t;
-        read_out = part_read_out told (take part.part.0 answer.report) mid new due.verdict part.part.1 t due.read_out;
-        sends = sends;
-      });
-}
+    → SentPart told Report answer.report mid new → GivenUp told request WriteFault old new
+cut_short told request answer old mid new worked part = record { understood = λ e. refl; ends = cut }
+  where
+    cut : CutShort told request old new
+    cut = record {
+      rose = let rose = part.rose in let before = worked.no_fault.write_faults in omega arith;
+      cut_short = λ t.
+          let due = worked.due t in
+          let sends = part_sends told (take part.part.0 answer.report) (outputs_of request due.outcome.texts) old mid new due.sends part.part.1 t in
+          inr (record {
+            outcome = due.outcome;
+            due = due.due;
+            text = answer.report;
+            report = due.answered.report;
+            count = part.part.0;
+            front = part_text told (take part.part.0 answer.report) mid new due.silent part.part.1 t;
+            read_out = part_read_out told (take part.part.0 answer.report) mid new due.due.read part.part.1 t due.read_out;
+            sends = sends;
+          });
+    }
+
+-- a command was given up before its report
+pub early : (told : Type 0) (request : Option Request) (why : Ended) (old new : World) → (request ≡ None → ⊥) → EndsEarly told request why old new → GivenUp told request why old new
+early told request why old new asked ends = record { understood = λ e. absurd (asked e); ends = ends }
 
 -- ---- words that ask for nothing
+
+abbrev asks_nothing : (files : Files) → ComesTo (plan_of None) files misused
+asks_nothing files = record { read = Ok []; reads = refl; comes = refl }
 
 nothing_yet : (told : Type 0) (w : World) → AtStart told w → told → SendsAll [] w.content w.content
 nothing_yet told w start t = nothing_due [] w.content w.content refl (start.sent t) (λ name. refl)
@@ -242,29 +207,32 @@ misused_whole told text old new start is sent = record {
   no_fault = record { read_faults = sent.read_faults; write_faults = sent.write_faults };
   closed = closed_after told text old new (writes_report told old start) sent;
   reported = λ t. record {
-    verdict = misused;
-    due = refl;
+    outcome = misused;
+    due = asks_nothing old.content.file;
     answered = refl;
     report = whole_text told text old new (start.sent t Report) sent t ∙ is;
-    read_out = whole_read_out told text old new misused sent t (λ p reading. absurd (reads_nothing told old start p reading));
+    read_out = whole_read_out told text old new (Ok []) sent t (λ p reading. absurd (reads_nothing told old start p reading));
     sends = whole_sends told text [] old old new (nothing_yet told old start t) (start.name t) sent t;
   };
 }
 
 pub misused_cut : (told : Type 0) (text : List ℕ) (old new : World) → AtStart told old → text ≡ line (codes "words not understood") → SentPart told Report text old new
-    → CutShort told None old new
-misused_cut told text old new start is part = record {
-  rose = part.rose;
-  cut_short = λ t.
-      let sends = part_sends told (take part.part.0 text) [] old old new (nothing_yet told old start t) part.part.1 t in
-      inr (record {
-        verdict = misused;
-        due = refl;
-        text = text;
-        report = is;
-        count = part.part.0;
-        front = part_text told (take part.part.0 text) old new (start.sent t Report) part.part.1 t;
-        read_out = part_read_out told (take part.part.0 text) old new misused part.part.1 t (λ p reading. absurd (reads_nothing told old start p reading));
-        sends = sends;
-      });
-}
+    → GivenUp told None WriteFault old new
+misused_cut told text old new start is part = record { understood = λ e. refl; ends = cut }
+  where
+    cut : CutShort told None old new
+    cut = record {
+      rose = part.rose;
+      cut_short = λ t.
+          let sends = part_sends told (take part.part.0 text) [] old old new (nothing_yet told old start t) part.part.1 t in
+          inr (record {
+            outcome = misused;
+            due = asks_nothing old.content.file;
+            text = text;
+            report = is;
+            count = part.part.0;
+            front = part_text told (take part.part.0 text) old new (start.sent t Report) part.part.1 t;
+            read_out = part_read_out told (take part.part.0 text) old new (Ok []) part.part.1 t (λ p reading. absurd (reads_nothing told old start p reading));
+            sends = sends;
+          });
+    }

@@ -1,5 +1,5 @@
 -- Reports on an instance worked by hand, and on what is refused.
-use Rattle.std.specs.Prelude.{◌≡◌, ℕ, List, [], ◌∷◌, ◌++◌, flat_map, codes, negsuc, Option, Some, None, refl}
+use Rattle.std.specs.Prelude.{◌≡◌, ℕ, List, [], ◌∷◌, ◌++◌, flat_map, codes, negsuc, Some, None, refl}
 use Rattle.std.specs.Fmt.{digits}
 use Rattle.rank_tables.specs.Instance.{Lists}
 use Rattle.stability_audit.specs.Verdict.{verdict_of}

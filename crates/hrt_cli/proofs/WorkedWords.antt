@@ -1,6 +1,6 @@
 -- Words that ask for something, and words that ask for nothing.
-use Rattle.std.specs.Prelude.{◌≡◌, ℕ, List, [], ◌∷◌, codes, Option, Some, None, refl}
-use Rattle.hrt_cli.specs.Requests.{Request, solve, audit, quick, request_of}
+use Rattle.std.specs.Prelude.{◌≡◌, [], ◌∷◌, codes, Some, None, refl}
+use Rattle.hrt_cli.specs.Requests.{solve, audit, quick, request_of}
 
 solves : request_of (codes "solve" ∷ codes "i" ∷ []) ≡ Some (solve (codes "i"))
 solves = refl

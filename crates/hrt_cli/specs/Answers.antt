@@ -1,6 +1,5 @@
--- What a run answers for a verdict.
-use Rattle.std.specs.Prelude.{◌≡◌, ◌⊎◌, ℕ, Bool, false, is_none, is_some, IsTrue, List, [], take, Option, IfSome}
-use Rattle.std.specs.List.{list_any}
+-- What a command answers, and what stands when it does.
+use Rattle.std.specs.Prelude.{◌≡◌, ◌⊎◌, ℕ, IsTrue, List, [], take, Option, Some, None, IsSomeAnd, Result, Err, IfOk, IfErr}
 use Rattle.hrt_base.specs.declared.port.Port.{Port}
 use Rattle.hrt_base.specs.declared.port.Port.TheVariants.{Instance, Pairs, Model, Proof, Report, ModelTwo, ProofTwo}
 use Rattle.hrt_base.specs.declared.host.Begun.TheVariants.{Reading, Writing}
@@ -8,75 +7,41 @@ use Rattle.hrt_base.specs.World.{World, Content, port_no}
 use Rattle.hrt_base.specs.Calls.{NoFault, Rose}
 use Rattle.hrt_reader.specs.Kinds.{number}
 use Rattle.hrt_reader.specs.PairsAnswer.{pairs_number}
-use Rattle.proof_lines.specs.declared.line.Claim.{Claim}
-use Rattle.proof_checker.specs.declared.refusal.ProofRefusal.{ProofRefusal}
-use Rattle.proof_checker.specs.Answers.{refusal_verdict}
 use Rattle.hrt_inputs.specs.declared.limit.Limit.TheVariants.{InstanceBytes, PairsBytes, ModelBytes, ProofBytes}
 use Rattle.hrt_inputs.specs.declared.stop.Stop.{Stop}
 use Rattle.hrt_inputs.specs.declared.stop.Stop.TheVariants.{Refused, Exceeded, PairsRefused, ModelRefused, ProofRefused, ReadFault, NoMemory}
-use Rattle.hrt_inputs.specs.Inputs.{OnlyRead}
-use Rattle.hrt_inputs.specs.Loading.{FailedToRead}
-use Rattle.hrt_inputs.specs.Rejections.{refused, exceeded, pairs_refused, model_refused}
+use Rattle.hrt_inputs.specs.Rejections.{Rejection, refused, exceeded, pairs_refused, model_refused}
 use Rattle.hrt_cli.specs.declared.answer.Answer.{Answer}
-use Rattle.hrt_cli.specs.declared.status.Status.{Status}
-use Rattle.hrt_cli.specs.declared.status.Status.TheVariants as status
 use Rattle.hrt_cli.specs.declared.stop.Ended.{Ended}
 use Rattle.hrt_cli.specs.declared.stop.Ended.TheVariants as ended
+use Rattle.hrt_cli.specs.Outcomes.{IsReport, Outcome, ComesTo, rejected}
 use Rattle.hrt_cli.specs.Outputs.{SendsAll, SendsFronts, outputs_of}
-use Rattle.hrt_cli.specs.Plans.{AreSome, AreTaken, Files, is_instance, is_pairs, is_proof, may_end_open, plan_of}
-use Rattle.hrt_cli.specs.Reports.{IsReport}
+use Rattle.hrt_cli.specs.Plans.{AreSome, AreTaken, Files, Value, plan_of}
+use Rattle.hrt_cli.specs.Ports.{KeepsOtherPorts, ReadsInputs, WritesOutputs}
+use Rattle.hrt_cli.specs.Reports.{proof_rejection}
 use Rattle.hrt_cli.specs.Requests.{Request}
-use Rattle.hrt_cli.specs.Verdicts.{Verdict, rejected, ComesTo, on_verdict}
-use Rattle.hrt_cli.specs.Statuses.{status_of}
+use Rattle.hrt_cli.specs.Statuses.{code_of, is_told_of}
 
--- the command reads an instance
-abbrev pub reads_instance : Option Request → Bool
-reads_instance request = list_any (λ i. is_instance i.kind) (plan_of request).inputs
+-- ---- answers
 
--- the command judges a proof
-abbrev pub judges_proof : Option Request → Bool
-judges_proof request = list_any (λ i. is_proof i.kind) (plan_of request).inputs
+-- the status and the report that are due
+pub record IsAnswer (due : Outcome) (answer : Answer) : Type 0 where
+  pub status : answer.status ≡ due.status
+  pub report : IsReport due.report answer.report
 
--- the command audits pairs
-abbrev pub audits_pairs : Option Request → Bool
-audits_pairs request = list_any (λ i. is_pairs i.kind) (plan_of request).inputs
-
--- the command prints a matching that may be shorter than the ceiling
-abbrev pub may_be_open : Option Request → Bool
-may_be_open request = may_end_open (plan_of request).job
-
--- a status that tells a verdict to which these words can come, whatever the files are
-abbrev pub is_verdict_of : Option Request → Status → Bool
-is_verdict_of request status.Done = is_some request
-is_verdict_of request status.Misused = is_none request
-is_verdict_of request status.InstanceRefused = reads_instance request
-is_verdict_of request status.ReadFault = false
-is_verdict_of request status.WriteFault = false
-is_verdict_of request status.NoMemory = false
-is_verdict_of request status.LimitExceeded = is_some request
-is_verdict_of request status.ProofRefused = judges_proof request
-is_verdict_of request status.AuditNo = audits_pairs request
-is_verdict_of request status.Bounded = may_be_open request
-is_verdict_of request status.PairsRefused = audits_pairs request
-
--- the status and the report of a verdict
-pub record IsAnswer (verdict : Verdict) (answer : Answer) : Type 0 where
-  pub status : answer.status ≡ status_of verdict
-  pub report : IsReport verdict answer.report
-
--- an answer tells the verdict on a proof that isn't valid, whatever a valid one comes to
-abbrev pub TellsRefusal : ProofRefusal → Answer → Type 0
-TellsRefusal refusal answer = (done : Claim → Verdict) → IfSome (refusal_verdict refusal) (λ judged. IsAnswer (on_verdict done judged) answer)
+-- what is told of a file for a stop, if anything is
+abbrev pub rejection_of : Stop → Option Rejection
+rejection_of (Refused kind line) = Some (refused (record { line = line; kind = number kind }))
+rejection_of (Exceeded limit) = Some (exceeded limit)
+rejection_of (PairsRefused kind line) = Some (pairs_refused (record { line = line; kind = pairs_number kind }))
+rejection_of (ModelRefused kind line) = Some (model_refused kind line)
+rejection_of (ProofRefused refusal) = proof_rejection refusal
+rejection_of ReadFault = None
+rejection_of NoMemory = None
 
 -- an answer tells why there was a stop
 abbrev pub Explains : Stop → Answer → Type 0
-Explains (Refused kind line) answer = IsAnswer (rejected (refused (record { line = line; kind = number kind }))) answer
-Explains (Exceeded limit) answer = IsAnswer (rejected (exceeded limit)) answer
-Explains (PairsRefused kind line) answer = IsAnswer (rejected (pairs_refused (record { line = line; kind = pairs_number kind }))) answer
-Explains (ModelRefused kind line) answer = IsAnswer (rejected (model_refused kind line)) answer
-Explains (ProofRefused refusal) answer = TellsRefusal refusal answer
-Explains ReadFault answer = ⊥
-Explains NoMemory answer = ⊥
+Explains stop answer = IsSomeAnd (rejection_of stop) (λ rejection. IsAnswer (rejected rejection) answer)
 
 -- a run can end so for this stop: by a read fault only where that was the stop, for want of memory after any, and never by a
 -- write fault
@@ -85,44 +50,31 @@ EndsFor stop ended.ReadFault = stop ≡ ReadFault
 EndsFor stop ended.WriteFault = ⊥
 EndsFor stop ended.NoMemory = Unit {0}
 
--- the verdict is that the length limit of what is read on this port was passed
-abbrev pub PassedAt : Verdict → Port → Type 0
-PassedAt verdict Instance = verdict ≡ rejected (exceeded InstanceBytes)
-PassedAt verdict Pairs = verdict ≡ rejected (exceeded PairsBytes)
-PassedAt verdict Model = verdict ≡ rejected (exceeded ModelBytes)
-PassedAt verdict Proof = verdict ≡ rejected (exceeded ProofBytes)
-PassedAt verdict Report = ⊥
-PassedAt verdict ModelTwo = ⊥
-PassedAt verdict ProofTwo = ⊥
+-- ---- what was read
+
+-- what stopped the reading is that the length limit of what is read on this port was passed
+abbrev pub PassedAt : Result (List Value) Rejection → Port → Type 0
+PassedAt read Instance = read ≡ Err (exceeded InstanceBytes)
+PassedAt read Pairs = read ≡ Err (exceeded PairsBytes)
+PassedAt read Model = read ≡ Err (exceeded ModelBytes)
+PassedAt read Proof = read ≡ Err (exceeded ProofBytes)
+PassedAt read Report = ⊥
+PassedAt read ModelTwo = ⊥
+PassedAt read ProofTwo = ⊥
 
 -- each port that was begun for reading was read to its end, but for the one whose length limit was passed
-abbrev pub IsReadOut : Verdict → World → Type 0
-IsReadOut verdict w = (port : Port) → w.begun port ≡ Reading → (w.content.rest port ≡ []) ⊎ PassedAt verdict port
+abbrev pub IsReadOut : Result (List Value) Rejection → World → Type 0
+IsReadOut read w = (port : Port) → w.begun port ≡ Reading → (w.content.rest port ≡ []) ⊎ PassedAt read port
 
--- ---- commands that only read
+-- ---- an answer
 
--- the words and the files come to this answer, and nothing but reading was done, with no call failed
-pub record IsAnswered (told : Type 0) (request : Option Request) (answer : Answer) (old new : World) : Type 0 where
-  pub only_read : OnlyRead told old new
-  pub read_faults : new.read_faults ≡ old.read_faults
-  pub suits : IsTrue (is_verdict_of request answer.status)
-  pub due : told → (verdict : Verdict) × ComesTo request old.content.file verdict × IsAnswer verdict answer × IsReadOut verdict new
-
--- a command that only reads was given up before its report
-abbrev pub GivesUp : (told : Type 0) → Ended → World → World → Type 0
-GivesUp told ended.ReadFault old new = FailedToRead told old new
-GivesUp told ended.WriteFault old new = ⊥
-GivesUp told ended.NoMemory old new = OnlyRead told old new
-
--- ---- all commands
-
--- the words and the files come to this answer, and each output of their verdict was written and sealed
+-- the words and the files come to this answer, and each output that is due was written and sealed
 pub record IsWorkDone (request : Option Request) (answer : Answer) (old new : World) : Type 0 where
-  pub verdict : Verdict
-  pub due : ComesTo request old.content.file verdict
-  pub answered : IsAnswer verdict answer
-  pub read_out : IsReadOut verdict new
-  pub sends : SendsAll (outputs_of request verdict) old.content new.content
+  pub outcome : Outcome
+  pub due : ComesTo (plan_of request) old.content.file outcome
+  pub answered : IsAnswer outcome answer
+  pub read_out : IsReadOut due.read new
+  pub sends : SendsAll (outputs_of request outcome.texts) old.content new.content
   pub silent : new.content.sent Report ≡ []
   pub unnamed : new.content.name Report ≡ []
 
@@ -131,8 +83,10 @@ pub record IsWorked (told : Type 0) (request : Option Request) (answer : Answer)
   pub no_fault : NoFault old new
   pub open_report : new.begun Report ≡ Writing
   pub others : (p : Port) → new.begun p ≡ Writing → port_no p ≡ port_no Report
-  pub suits : IsTrue (is_verdict_of request answer.status)
+  pub suits : IsTrue (is_told_of request (code_of answer.status))
   pub due : told → IsWorkDone request answer old new
+
+-- ---- no answer
 
 -- nothing was sent, and the files are as they were
 pub record SendsNothing (old new : Content) : Type 0 where
@@ -141,9 +95,9 @@ pub record SendsNothing (old new : Content) : Type 0 where
 
 -- fronts of the outputs were sent of what the words and the files come to
 pub record SendsDue (request : Option Request) (old new : Content) : Type 0 where
-  pub verdict : Verdict
-  pub due : ComesTo request old.file verdict
-  pub sends : SendsFronts (outputs_of request verdict) old new
+  pub outcome : Outcome
+  pub due : ComesTo (plan_of request) old.file outcome
+  pub sends : SendsFronts (outputs_of request outcome.texts) old new
 
 -- nothing was sent, or fronts of the outputs, and no byte of the report
 pub record LeavesFronts (request : Option Request) (old new : Content) : Type 0 where
@@ -162,14 +116,14 @@ pub record IsCutBefore (request : Option Request) (old new : World) : Type 0 whe
 
 -- a front was sent of the report of what the words and the files come to, and before it the outputs whole
 pub record IsCutAtReport (request : Option Request) (old new : World) : Type 0 where
-  pub verdict : Verdict
-  pub due : ComesTo request old.content.file verdict
+  pub outcome : Outcome
+  pub due : ComesTo (plan_of request) old.content.file outcome
   pub text : List ℕ
-  pub report : IsReport verdict text
+  pub report : IsReport outcome.report text
   pub count : ℕ
   pub front : new.content.sent Report ≡ take count text
-  pub read_out : IsReadOut verdict new
-  pub sends : SendsAll (outputs_of request verdict) old.content new.content
+  pub read_out : IsReadOut due.read new
+  pub sends : SendsAll (outputs_of request outcome.texts) old.content new.content
 
 -- the run was cut short at its outputs or at its report
 abbrev pub IsCutShort : Option Request → World → World → Type 0
@@ -186,8 +140,19 @@ pub record ReadFailed (told : Type 0) (old new : World) : Type 0 where
   pub writers : (port : Port) → new.begun port ≡ Writing → port ≡ Report
   pub nothing : told → SendsNothing old.content new.content
 
--- a command was given up before the report
+-- a command was given up before its whole report
 abbrev pub EndsEarly : (told : Type 0) → Option Request → Ended → World → World → Type 0
 EndsEarly told request ended.ReadFault old new = ReadFailed told old new
 EndsEarly told request ended.WriteFault old new = CutShort told request old new
 EndsEarly told request ended.NoMemory old new = told → LeavesFronts request old.content new.content
+
+-- ---- a command
+
+-- A command was carried out up to its report, or given up. It begins no ports but those of its plan, and leaves all others as
+-- they were.
+pub record Serves (told : Type 0) (request : Option Request) (result : Result Answer Ended) (old new : World) : Type 0 where
+  pub worked : IfOk result (λ answer. IsWorked told request answer old new)
+  pub ended : IfErr result (λ why. EndsEarly told request why old new)
+  pub inputs : ReadsInputs told request old new
+  pub outputs : WritesOutputs told request old new
+  pub others : KeepsOtherPorts told request old new

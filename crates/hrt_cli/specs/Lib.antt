@@ -1,4 +1,5 @@
 pub mod Answers
+pub mod Outcomes
 pub mod Outputs
 pub mod Plans
 pub mod Ports
@@ -6,5 +7,4 @@ pub mod Reports
 pub mod Requests
 pub mod Runs
 pub mod Statuses
-pub mod Verdicts
 pub mod Writing

@@ -7,7 +7,6 @@ use Rattle.rank_tables.specs.Instance.{Lists}
 use Rattle.opb_text.specs.Spelling.{model_text}
 use Rattle.hrt_cli.specs.Plans.{Files, Named, is_named, plan_of}
 use Rattle.hrt_cli.specs.Requests.{Request}
-use Rattle.hrt_cli.specs.Verdicts.{Verdict, misused, modeled, rejected, solved, audited, verified, checked, bounded, matched}
 
 -- a text that is written on a port, and becomes the file of this name
 pub record Output : Type 0 where
@@ -21,27 +20,15 @@ output port name text = record { port = port; name = name; text = text }
 
 -- ---- what is due
 
--- the texts that are due, in the order in which they are written
-abbrev pub texts_of : Verdict → List (List ℕ)
-texts_of misused = []
-texts_of (rejected rejection) = []
-texts_of (solved lists) = []
-texts_of (audited lists pairs) = []
-texts_of (modeled lists) = model_text lists ∷ []
-texts_of (verified claim) = []
-texts_of (checked claim) = []
-texts_of (bounded lists deleted top text) = model_text lists ∷ text ∷ []
-texts_of (matched lists deleted top text) = model_text lists ∷ text ∷ []
-
 -- The texts with the outputs of their places. An output without a text isn't written.
 abbrev pub outputs_with : List Named → List (List ℕ) → List Output
 outputs_with [] texts = []
 outputs_with (o ∷ outputs) [] = []
 outputs_with (o ∷ outputs) (text ∷ texts) = output o.port o.name text ∷ outputs_with outputs texts
 
--- what is written for a verdict, one output after the other
-abbrev pub outputs_of : Option Request → Verdict → List Output
-outputs_of request verdict = outputs_with (plan_of request).outputs (texts_of verdict)
+-- what is written where these texts are due, one output after the other
+abbrev pub outputs_of : Option Request → List (List ℕ) → List Output
+outputs_of request texts = outputs_with (plan_of request).outputs texts
 
 -- the model under one name and a proof under another
 abbrev pub both : List ℕ → List ℕ → Lists → List ℕ → List Output

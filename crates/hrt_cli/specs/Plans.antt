@@ -1,5 +1,5 @@
 -- What a command reads and writes: its inputs in the order of reading, its outputs in the order of writing, and its job.
-use Rattle.std.specs.Prelude.{◌≡◌, ◌⊎◌, ◌<◌, ◌≤◌, ℕ, Bool, true, false, List, [], ◌∷◌, ◌++◌, length, Option, Some, None, Result, Ok, Err, bytes_eq}
+use Rattle.std.specs.Prelude.{◌≡◌, ◌⊎◌, ◌<◌, ◌≤◌, ℕ, Bool, true, List, [], ◌∷◌, ◌++◌, length, Option, Some, None, IsSomeAnd, Result, Ok, Err, bytes_eq}
 use Rattle.std.specs.List.{list_any}
 use Rattle.hrt_base.specs.declared.port.Port.{Port}
 use Rattle.hrt_base.specs.declared.port.Port.TheVariants.{Instance, Pairs, Model, Proof}
@@ -31,27 +31,6 @@ pub data Kind : Type 0 where
   model : Kind  -- a formula
   proof : Kind  -- a proof for the formula before, or for the model of the instance before
 
--- the kind is an instance
-abbrev pub is_instance : Kind → Bool
-is_instance (instance limit) = true
-is_instance pairs = false
-is_instance model = false
-is_instance proof = false
-
--- the kind is pairs of an instance
-abbrev pub is_pairs : Kind → Bool
-is_pairs (instance limit) = false
-is_pairs pairs = true
-is_pairs model = false
-is_pairs proof = false
-
--- the kind is a proof
-abbrev pub is_proof : Kind → Bool
-is_proof (instance limit) = false
-is_proof pairs = false
-is_proof model = false
-is_proof proof = true
-
 -- a file that is read on a port, as something of a kind
 pub record Input : Type 0 where
   pub port : Port
@@ -82,10 +61,17 @@ pub data Job : Type 0 where
   bound : Job
   quick : Job
 
--- the job prints a matching that may be shorter than the ceiling
-abbrev pub may_end_open : Job → Bool
-may_end_open quick = true
-may_end_open job = false
+-- the words and the files determine what the job comes to, but for the text of a proof and for which of some best matchings is
+-- printed
+abbrev pub is_determined : Job → Bool
+is_determined explain = true
+is_determined solve = true
+is_determined audit = true
+is_determined model = true
+is_determined verify = true
+is_determined check = true
+is_determined bound = true
+is_determined quick = true
 
 -- a command as data
 pub record Plan : Type 0 where
@@ -147,23 +133,23 @@ pub record IsJudgedAs (f : Formula) (bytes : List ℕ) (read : Result Value Reje
 abbrev pub ReadsProof : Formula → List ℕ → Result Value Rejection → Type 0
 ReadsProof f bytes read = ((most ProofBytes < length bytes) × (read ≡ Err (exceeded ProofBytes))) ⊎ IsJudgedAs f bytes read
 
--- what pairs are read as, behind these values
-abbrev pub ReadsPairsBehind : List Value → List ℕ → Result Value Rejection → Type 0
-ReadsPairsBehind (lists l ∷ []) bytes read = read ≡ as_value listed (pairs_in l bytes)
-ReadsPairsBehind before bytes read = ⊥
+-- the instance, if it alone was read
+abbrev pub lists_of : List Value → Option Lists
+lists_of (lists l ∷ []) = Some l
+lists_of values = None
 
--- what a proof is read as, behind these values
-abbrev pub ReadsProofBehind : List Value → List ℕ → Result Value Rejection → Type 0
-ReadsProofBehind (lists l ∷ []) bytes read = ReadsProof (formula_of l) bytes read
-ReadsProofBehind (formula f ∷ []) bytes read = ReadsProof f bytes read
-ReadsProofBehind before bytes read = ⊥
+-- the formula that was read, or that of the model of the instance
+abbrev pub formula_among : List Value → Option Formula
+formula_among (lists l ∷ []) = Some (formula_of l)
+formula_among (formula f ∷ []) = Some f
+formula_among values = None
 
 -- what bytes are read as, behind these values
 abbrev pub Reads : Kind → List Value → List ℕ → Result Value Rejection → Type 0
 Reads (instance limit) before bytes read = read ≡ as_value lists (lists_within limit bytes)
-Reads pairs before bytes read = ReadsPairsBehind before bytes read
+Reads pairs before bytes read = IsSomeAnd (lists_of before) (λ l. read ≡ as_value listed (pairs_in l bytes))
 Reads model before bytes read = read ≡ as_value formula (formula_in bytes)
-Reads proof before bytes read = ReadsProofBehind before bytes read
+Reads proof before bytes read = IsSomeAnd (formula_among before) (λ f. ReadsProof f bytes read)
 
 -- The inputs are read one after another, behind these values: each as a value, or the first that isn't taken as its rejection.
 abbrev pub ReadsTo : List Input → Files → List Value → Result (List Value) Rejection → Type 0

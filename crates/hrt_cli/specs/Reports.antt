@@ -1,5 +1,5 @@
 -- The texts of reports. Each line ends with a line feed.
-use Rattle.std.specs.Prelude.{◌≡◌, ◌<◌, ℕ, ◌==◌, if◌then◌else◌, List, [], ◌∷◌, ◌++◌, length, flat_map, decimal, codes, ℤ, neg_ℤ, Option, None, IfSome, option_map}
+use Rattle.std.specs.Prelude.{◌≡◌, ◌<◌, ℕ, ◌==◌, if◌then◌else◌, List, [], ◌∷◌, ◌++◌, length, flat_map, decimal, codes, ℤ, neg_ℤ, Option, Some, None, IsSomeAnd, option_map}
 use Rattle.std.specs.List.Sorted.{IsStrictlyIncreasing}
 use Rattle.rank_tables.specs.Instance.{Lists, pair_count, pair_at, one_sided}
 use Rattle.rank_tables.specs.WellFormed.{names_of_residents, names_of_hospitals}
@@ -9,24 +9,22 @@ use Rattle.hrt_reader.specs.PairsText.{pair_text}
 use Rattle.hrt_reader.specs.Spelling.{name_at}
 use Rattle.stability_audit.specs.declared.verdict.Verdict.{Verdict as Audit}
 use Rattle.stability_audit.specs.declared.verdict.Verdict.TheVariants.{Stable, ResidentTwice, OverCapacity, Blocked}
-use Rattle.stability_audit.specs.Verdict.{verdict_of as audit_of}
 use Rattle.stability_model.specs.Model.{rows}
 use Rattle.proof_lines.specs.Texts.{bound_text}
 use Rattle.proof_lines.specs.declared.line.Claim.{Claim}
 use Rattle.proof_lines.specs.declared.line.Claim.TheVariants.{Bounds, Unsat, Nothing}
+use Rattle.proof_rules.specs.Texts.{Verdict, Accepted, Refused, Truncated}
 use Rattle.proof_rules.specs.Refusals as why
 use Rattle.proof_rules.specs.Refusals.{Refusal, RefusalAt}
 use Rattle.proof_checker.specs.declared.refusal.ProofRefusal.{ProofRefusal}
 use Rattle.proof_checker.specs.Answers.{refusal_verdict}
-use Rattle.promotion_heuristic.specs.Promotion.{promotion}
 use Rattle.hrt_solve.specs.declared.ends.SolveEnd.{SolveEnd}
 use Rattle.hrt_inputs.specs.declared.limit.Limit.{Limit}
 use Rattle.hrt_inputs.specs.declared.limit.Limit.TheVariants.{Residents, Hospitals, Pairs, TriedPairs, Terms, InstanceBytes, PairsBytes, ModelBytes, Variables, Rows, ProofBytes}
 use Rattle.hrt_inputs.specs.declared.stop.ModelKind.{ModelKind}
 use Rattle.hrt_inputs.specs.declared.stop.ModelKind.TheVariants.{Syntax, TooBig}
 use Rattle.hrt_inputs.specs.Limits.{most}
-use Rattle.hrt_inputs.specs.Rejections.{refused, exceeded, pairs_refused, model_refused, proof_refused, truncated}
-use Rattle.hrt_cli.specs.Verdicts.{Verdict, misused, rejected, solved, audited, modeled, verified, checked, bounded, matched, on_verdict}
+use Rattle.hrt_inputs.specs.Rejections.{Rejection, refused, exceeded, pairs_refused, model_refused, proof_refused, truncated}
 
 -- a text with the line feed that ends it
 abbrev pub line : List ℕ → List ℕ
@@ -186,8 +184,6 @@ check_report (Bounds lower upper) = points_report lower upper
 check_report Unsat = line (codes "accepted") ++ line (codes "unsatisfiable")
 check_report Nothing = line (codes "accepted") ++ line (codes "no conclusion")
 
--- ---- all of them
-
 -- whom an audit names is declared
 abbrev pub NamesDeclared : Lists → Audit → Type 0
 NamesDeclared lists Stable = Unit {0}
@@ -202,23 +198,26 @@ pub record IsSolveReport (lists : Lists) (text : List ℕ) : Type 0 where
   pub rising : IsStrictlyIncreasing pairs
   pub is_report : text ≡ solve_report lists pairs
 
--- the text is a report for the verdict
-abbrev pub IsReport : Verdict → List ℕ → Type 0
-IsReport misused text = text ≡ line (codes "words not understood")
-IsReport (rejected (refused r)) text = text ≡ codes "instance refused line " ++ place_line r.line (kind_word r.kind)
-IsReport (rejected (exceeded limit)) text = text ≡ limit_line limit
-IsReport (rejected (pairs_refused r)) text = text ≡ codes "pairs refused line " ++ place_line r.line (pairs_kind_word r.kind)
-IsReport (rejected (model_refused kind line)) text = text ≡ codes "model refused line " ++ place_line line (model_kind_word kind)
-IsReport (rejected (proof_refused r)) text = text ≡ proof_refusal_report r
-IsReport (rejected truncated) text = text ≡ line (codes "proof refused Truncated")
-IsReport (solved lists) text = IsSolveReport lists text
-IsReport (audited lists pairs) text = text ≡ audit_report lists pairs (audit_of lists pairs)
-IsReport (modeled lists) text = text ≡ model_report lists
-IsReport (verified claim) text = text ≡ verify_report claim
-IsReport (checked claim) text = text ≡ check_report claim
-IsReport (bounded lists deleted top proof) text = text ≡ bound_report lists deleted top
-IsReport (matched lists deleted top proof) text = text ≡ quick_report lists deleted top (promotion lists)
+-- the report on a file that isn't taken
+abbrev pub rejection_report : Rejection → List ℕ
+rejection_report (refused r) = codes "instance refused line " ++ place_line r.line (kind_word r.kind)
+rejection_report (exceeded limit) = limit_line limit
+rejection_report (pairs_refused r) = codes "pairs refused line " ++ place_line r.line (pairs_kind_word r.kind)
+rejection_report (model_refused kind line) = codes "model refused line " ++ place_line line (model_kind_word kind)
+rejection_report (proof_refused r) = proof_refusal_report r
+rejection_report truncated = line (codes "proof refused Truncated")
 
--- the text is the report on a proof with this refusal, whatever a valid proof comes to
+-- what is told of a proof with this verdict, if it isn't accepted
+abbrev pub rejection_by : Option Verdict → Option Rejection
+rejection_by None = None
+rejection_by (Some (Accepted claim)) = None
+rejection_by (Some (Refused r)) = Some (proof_refused r)
+rejection_by (Some Truncated) = Some truncated
+
+-- what is told of a proof for this refusal; want of memory is none
+abbrev pub proof_rejection : ProofRefusal → Option Rejection
+proof_rejection refusal = rejection_by (refusal_verdict refusal)
+
+-- the text is the report on a proof with this refusal
 abbrev pub TellsOfProof : ProofRefusal → List ℕ → Type 0
-TellsOfProof refusal text = (done : Claim → Verdict) → IfSome (refusal_verdict refusal) (λ judged. IsReport (on_verdict done judged) text)
+TellsOfProof refusal text = IsSomeAnd (proof_rejection refusal) (λ rejection. text ≡ rejection_report rejection)

@@ -1,21 +1,22 @@
 -- How a run ends, and what stands after it.
-use Rattle.std.specs.Prelude.{◌≡◌, ◌⊎◌, ◌<◌, ◌↔◌, ℕ, ◌==◌, ◌||◌, Bool, true, false, not, is_none, is_some, if◌then◌else◌, IsTrue, List, ◌++◌, length, codes, Option, Some, None, IfSome, ℤ, pos, ◌≤ℤ◌}
+use Rattle.std.specs.Prelude.{◌≡◌, ◌⊎◌, ◌<◌, ◌↔◌, ℕ, ◌==◌, ◌||◌, ◌&&◌, Bool, true, false, not, is_some, IsTrue, List, ◌++◌, length, codes, Option, Some, None, IfSome, Result, Ok, Err, ℤ, pos, ◌≤ℤ◌}
 use Rattle.std.specs.List.Sorted.{IsStrictlyIncreasing}
 use Rattle.hrt_base.specs.declared.port.Port.{Port}
 use Rattle.hrt_base.specs.declared.port.Port.TheVariants.{Model, Proof, Report}
 use Rattle.hrt_base.specs.declared.host.Begun.TheVariants.{Writing}
 use Rattle.hrt_base.specs.Calls.{NoFault, Rose}
 use Rattle.hrt_base.specs.World.{World, Content}
-use Rattle.hrt_inputs.specs.Taken.{IsTaken}
 use Rattle.hrt_cli.specs.declared.status.Status.{Status}
-use Rattle.hrt_cli.specs.declared.status.Status.TheVariants.{Done, Misused, InstanceRefused, ReadFault, WriteFault, NoMemory, LimitExceeded, ProofRefused, AuditNo, Bounded, PairsRefused}
-use Rattle.hrt_cli.specs.Answers.{CutShort, IsReadOut, LeavesFronts, ReadFailed, audits_pairs, is_verdict_of, judges_proof, may_be_open, reads_instance}
+use Rattle.hrt_cli.specs.declared.status.Status.TheVariants.{Misused}
+use Rattle.hrt_cli.specs.declared.stop.Ended.{Ended}
+use Rattle.hrt_cli.specs.declared.stop.Ended.TheVariants.{WriteFault}
+use Rattle.hrt_cli.specs.Answers.{EndsEarly, IsReadOut}
 use Rattle.hrt_cli.specs.Outputs.{SendsAll, is_output_name, outputs_of}
-use Rattle.hrt_cli.specs.Reports.{IsReport, audit_report, bound_report, check_report, count_line, line, match_lines, model_report, sizes_report, solve_report}
-use Rattle.hrt_cli.specs.Requests as ask
+use Rattle.hrt_cli.specs.Plans.{AreTaken, is_determined, plan_of}
+use Rattle.hrt_cli.specs.Outcomes.{IsReport, Outcome, ComesTo}
+use Rattle.hrt_cli.specs.Reports.{audit_report, bound_report, check_report, count_line, line, match_lines, model_report, sizes_report, solve_report}
 use Rattle.hrt_cli.specs.Requests.{Request}
-use Rattle.hrt_cli.specs.Statuses.{code_of, status_of}
-use Rattle.hrt_cli.specs.Verdicts.{Verdict, ComesTo}
+use Rattle.hrt_cli.specs.Statuses.{code_of, is_code_among, is_told_of, statuses_of}
 use Rattle.rank_tables.specs.Instance.{Lists}
 use Rattle.rank_tables.specs.Stability.{Best, is_weakly_stable}
 use Rattle.pb_rows.specs.Formula.{Formula}
@@ -33,45 +34,31 @@ use Rattle.opb_text.specs.Spelling.{model_text}
 
 -- the report of what the words and the files come to was sent whole
 pub record IsReported (request : Option Request) (status : Status) (old new : World) : Type 0 where
-  pub verdict : Verdict
-  pub due : ComesTo request old.content.file verdict
-  pub answered : status ≡ status_of verdict
-  pub report : IsReport verdict (new.content.sent Report)
-  pub read_out : IsReadOut verdict new
-  pub sends : SendsAll (outputs_of request verdict) old.content new.content
+  pub outcome : Outcome
+  pub due : ComesTo (plan_of request) old.content.file outcome
+  pub answered : status ≡ outcome.status
+  pub report : IsReport outcome.report (new.content.sent Report)
+  pub read_out : IsReadOut due.read new
+  pub sends : SendsAll (outputs_of request outcome.texts) old.content new.content
 
 -- The report was sent whole, no call failed, and no port is left begun for writing. The run is misused just where the words ask for nothing, and
 -- the status is one that they can come to.
 pub record Reported (told : Type 0) (request : Option Request) (status : Status) (old new : World) : Type 0 where
   pub understood : (status ≡ Misused) ↔ (request ≡ None)
-  pub suits : IsTrue (is_verdict_of request status)
+  pub suits : IsTrue (is_told_of request (code_of status))
   pub no_fault : NoFault old new
   pub closed : (port : Port) → new.begun port ≡ Writing → ⊥
   pub reported : told → IsReported request status old new
 
--- the words ask for something, but a read failed before anything was written
-pub record Unread (told : Type 0) (request : Option Request) (old new : World) : Type 0 where
-  pub understood : request ≡ None → ⊥
-  pub failed : ReadFailed told old new
+-- a run was given up before its whole report; the words ask for something, unless a write failed
+pub record GivenUp (told : Type 0) (request : Option Request) (why : Ended) (old new : World) : Type 0 where
+  pub understood : request ≡ None → why ≡ WriteFault
+  pub ends : EndsEarly told request why old new
 
--- the words ask for something, but nothing was sent, or fronts of the outputs, and no byte of the report
-pub record OutOfMemory (told : Type 0) (request : Option Request) (old new : World) : Type 0 where
-  pub understood : request ≡ None → ⊥
-  pub fronts : told → LeavesFronts request old.content new.content
-
--- how a run ends, by its status
-abbrev pub EndsAs : (told : Type 0) → Option Request → Status → World → World → Type 0
-EndsAs told request ReadFault old new = Unread told request old new
-EndsAs told request WriteFault old new = CutShort told request old new
-EndsAs told request NoMemory old new = OutOfMemory told request old new
-EndsAs told request Done old new = Reported told request Done old new
-EndsAs told request Misused old new = Reported told request Misused old new
-EndsAs told request InstanceRefused old new = Reported told request InstanceRefused old new
-EndsAs told request LimitExceeded old new = Reported told request LimitExceeded old new
-EndsAs told request ProofRefused old new = Reported told request ProofRefused old new
-EndsAs told request AuditNo old new = Reported told request AuditNo old new
-EndsAs told request Bounded old new = Reported told request Bounded old new
-EndsAs told request PairsRefused old new = Reported told request PairsRefused old new
+-- how a run ends
+abbrev pub EndsAs : (told : Type 0) → Option Request → Result Status Ended → World → World → Type 0
+EndsAs told request (Ok status) old new = Reported told request status old new
+EndsAs told request (Err why) old new = GivenUp told request why old new
 
 -- ---- what a run promises, by the code that it answers
 
@@ -81,49 +68,36 @@ has_report n = not (n == 4 || n == 5 || n == 6)
 
 -- a code with which a run of these words can end
 abbrev pub is_code_of : Option Request → ℕ → Bool
-is_code_of request n =
-    if n == 0 || n == 7 then is_some request
-    else if n == 2 then is_none request
-    else if n == 3 then reads_instance request
-    else if n == 4 || n == 6 then is_some request
-    else if n == 8 then judges_proof request
-    else if n == 9 || n == 12 then audits_pairs request
-    else if n == 10 then may_be_open request
-    else n == 5
+is_code_of request n = n == 5 || ((n == 4 || n == 6) && is_some request) || is_told_of request n
 
--- the report was sent of what the words and the files come to, and the code is that of this verdict
+-- the report was sent of what the words and the files come to, and the code is that of its status
 pub record IsDecided (request : Option Request) (n : ℕ) (old new : World) : Type 0 where
   pub status : Status
   pub code : n ≡ code_of status
   pub reported : IsReported request status old new
 
--- The code and the report are those of whatever verdict the words and the files come to, unless a call of the host failed or
--- memory was wanting.
+-- For a command whose words and files determine what it comes to: the code and the report are those of whatever they come to,
+-- unless a call of the host failed or memory was wanting.
 abbrev pub IsDue : Option Request → ℕ → World → World → Type 0
 IsDue request n old new =
-    (verdict : Verdict) → ComesTo request old.content.file verdict → has_report n ≡ true
-    → (n ≡ code_of (status_of verdict)) × IsReport verdict (new.content.sent Report)
+    IsTrue (is_determined (plan_of request).job) → (due : Outcome) → ComesTo (plan_of request) old.content.file due → has_report n ≡ true
+    → (n ≡ code_of due.status) × IsReport due.report (new.content.sent Report)
 
--- without a rise of the counts of faults the code is that of the verdict, or memory was wanting
+-- no count of faults has risen
+pub record NoRise (old new : World) : Type 0 where
+  pub unread : Rose old.read_faults new.read_faults → ⊥
+  pub unwritten : Rose old.write_faults new.write_faults → ⊥
+
+-- For such a command: without a rise of the counts of faults the code is that of whatever they come to, or memory was wanting.
 abbrev pub IsComplete : Option Request → ℕ → World → World → Type 0
 IsComplete request n old new =
-    (Rose old.read_faults new.read_faults → ⊥) → (Rose old.write_faults new.write_faults → ⊥)
-    → (verdict : Verdict) → ComesTo request old.content.file verdict → (n ≡ code_of (status_of verdict)) ⊎ (n ≡ 6)
+    IsTrue (is_determined (plan_of request).job) → NoRise old new → (due : Outcome) → ComesTo (plan_of request) old.content.file due
+    → (n ≡ code_of due.status) ⊎ (n ≡ 6)
 
--- Without a rise of the counts of faults a command that writes a proof is done with an instance that is taken, or memory was
--- wanting.
+-- Without a rise of the counts of faults a command whose inputs are taken ends with a status of its job, or memory was wanting.
 abbrev pub Finishes : Option Request → ℕ → World → World → Type 0
-Finishes None n old new = Unit {0}
-Finishes (Some (ask.solve instance)) n old new = Unit {0}
-Finishes (Some (ask.audit instance pairs)) n old new = Unit {0}
-Finishes (Some (ask.model instance file)) n old new = Unit {0}
-Finishes (Some (ask.verify instance proof)) n old new = Unit {0}
-Finishes (Some (ask.check file proof)) n old new = Unit {0}
-Finishes (Some (ask.bound instance file proof)) n old new =
-    (Rose old.read_faults new.read_faults → ⊥) → (Rose old.write_faults new.write_faults → ⊥) → IsTaken (old.content.file instance) → (n ≡ 0) ⊎ (n ≡ 6)
-Finishes (Some (ask.quick instance file proof)) n old new =
-    (Rose old.read_faults new.read_faults → ⊥) → (Rose old.write_faults new.write_faults → ⊥) → IsTaken (old.content.file instance)
-    → (n ≡ 0) ⊎ (n ≡ 10) ⊎ (n ≡ 6)
+Finishes request n old new =
+    NoRise old new → AreTaken (plan_of request).inputs old.content.file → IsTrue (is_code_among (statuses_of (plan_of request).job) n) ⊎ (n ≡ 6)
 
 -- the report lists the pairs of a best matching of the instance that the file spells, by rising number
 pub record PrintsBest (instance : List ℕ) (old new : Content) : Type 0 where

@@ -5,12 +5,11 @@ ghost use Rattle.rank_tables.specs.Numbers.{is_distinct};
 ghost use Rattle.rank_tables.specs.Instance.{pair_count};
 ghost use Rattle.rank_tables.specs.Tables.{numbers_of, IsPairNo};
 ghost use Rattle.rank_tables.specs.WellFormed.{most_pairs};
-ghost use Rattle.hrt_cli.specs.Answers.{GivesUp, IsAnswer, IsAnswered};
-ghost use Rattle.hrt_cli.specs.Ports.{KeepsOtherPorts, ReadsInputs, WritesOutputs};
+ghost use Rattle.hrt_cli.specs.Answers.{IsAnswer, Serves};
 ghost use Rattle.hrt_cli.specs.Reports.{audit_report, NamesDeclared};
 ghost use Rattle.hrt_cli.specs.Requests.{audit};
 ghost use Rattle.hrt_cli.specs.Statuses.{audit_status};
-ghost use Rattle.hrt_cli.specs.Verdicts.{audited};
+ghost use Rattle.hrt_cli.specs.Outcomes.{audited};
 
 use crate::{Answer, Ended, Report, Status, explain};
 use hrt_base::{Host, NoMemory, PairNo};
@@ -27,11 +26,7 @@ pub fn audit<H: Host>(
     pairs: &str,
 ) -> Result<Answer, Ended>
     requires { AtStart H.told (H.world host.old) }
-    ensures answered { IfOk result (λ answer. IsAnswered H.told (Some (audit instance.now pairs.now)) answer (H.world host.old) (H.world host.new)) }
-    ensures ended { IfErr result (λ ended. GivesUp H.told ended (H.world host.old) (H.world host.new)) }
-    ensures inputs { ReadsInputs H.told (Some (audit instance.now pairs.now)) (H.world host.old) (H.world host.new) }
-    ensures outputs { WritesOutputs H.told (Some (audit instance.now pairs.now)) (H.world host.old) (H.world host.new) }
-    ensures others { KeepsOtherPorts H.told (Some (audit instance.now pairs.now)) (H.world host.old) (H.world host.new) }
+    ensures { Serves H.told (Some (audit instance.now pairs.now)) result (H.world host.old) (H.world host.new) }
 {
     let inst = match load(alloc, host, instance, Limit::Pairs) {
         Ok(inst) => inst,

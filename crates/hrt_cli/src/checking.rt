@@ -1,10 +1,9 @@
 // The command that checks a proof against a model.
 ghost use Rattle.std.specs.Prelude.{◌≡◌, Some, IfErr, IfOk};
 ghost use Rattle.hrt_base.specs.Calls.{AtStart};
-ghost use Rattle.hrt_cli.specs.Answers.{GivesUp, IsAnswer, IsAnswered};
-ghost use Rattle.hrt_cli.specs.Ports.{KeepsOtherPorts, ReadsInputs, WritesOutputs};
+ghost use Rattle.hrt_cli.specs.Answers.{IsAnswer, Serves};
 ghost use Rattle.hrt_cli.specs.Requests.{check};
-ghost use Rattle.hrt_cli.specs.Verdicts.{checked};
+ghost use Rattle.hrt_cli.specs.Outcomes.{checked};
 
 use crate::claims::check_report;
 use crate::{Answer, Ended, Status, explain};
@@ -21,11 +20,7 @@ pub fn check<H: Host>(
     proof: &str,
 ) -> Result<Answer, Ended>
     requires { AtStart H.told (H.world host.old) }
-    ensures answered { IfOk result (λ answer. IsAnswered H.told (Some (check model.now proof.now)) answer (H.world host.old) (H.world host.new)) }
-    ensures ended { IfErr result (λ ended. GivesUp H.told ended (H.world host.old) (H.world host.new)) }
-    ensures inputs { ReadsInputs H.told (Some (check model.now proof.now)) (H.world host.old) (H.world host.new) }
-    ensures outputs { WritesOutputs H.told (Some (check model.now proof.now)) (H.world host.old) (H.world host.new) }
-    ensures others { KeepsOtherPorts H.told (Some (check model.now proof.now)) (H.world host.old) (H.world host.new) }
+    ensures { Serves H.told (Some (check model.now proof.now)) result (H.world host.old) (H.world host.new) }
 {
     let formula = match load_formula(alloc, host, model) {
         Ok(formula) => formula,

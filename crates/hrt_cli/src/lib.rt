@@ -20,6 +20,6 @@ mod words;
 use answer::{Answer, explain};
 pub use program::run;
 use report::Report;
-use status::Status;
+use status::{Status, exit_code};
 use stop::Ended;
 use words::{Command, command_of};

@@ -3,11 +3,11 @@ ghost use Rattle.std.specs.Prelude.{◌≡◌, [], ◌∷◌, Some, IfOk, IfErr,
 ghost use Rattle.hrt_base.specs.Calls.{AtStart, Rose};
 ghost use Rattle.opb_text.specs.Spelling.{model_text};
 ghost use Rattle.hrt_inputs.specs.Inputs.{IsAt, KeepsPorts};
-ghost use Rattle.hrt_cli.specs.Answers.{EndsEarly, IsAnswer, IsWorked};
-ghost use Rattle.hrt_cli.specs.Ports.{BeginsWriting, KeepsOtherPorts, ReadsInputs, WritesOutputs};
+ghost use Rattle.hrt_cli.specs.Answers.{IsAnswer, Serves};
+ghost use Rattle.hrt_cli.specs.Ports.{BeginsWriting};
 ghost use Rattle.hrt_cli.specs.Reports.{model_report};
 ghost use Rattle.hrt_cli.specs.Requests.{model};
-ghost use Rattle.hrt_cli.specs.Verdicts.{modeled};
+ghost use Rattle.hrt_cli.specs.Outcomes.{modeled};
 ghost use Rattle.hrt_cli.specs.Outputs.{output};
 ghost use Rattle.hrt_cli.specs.Writing.{EndsWriting, WritesAll, WritesInPart};
 
@@ -27,11 +27,7 @@ pub fn model<H: Host>(
     file: &str,
 ) -> Result<Answer, Ended>
     requires { AtStart H.told (H.world host.old) }
-    ensures worked { IfOk result (λ answer. IsWorked H.told (Some (model instance.now file.now)) answer (H.world host.old) (H.world host.new)) }
-    ensures ended { IfErr result (λ ended. EndsEarly H.told (Some (model instance.now file.now)) ended (H.world host.old) (H.world host.new)) }
-    ensures inputs { ReadsInputs H.told (Some (model instance.now file.now)) (H.world host.old) (H.world host.new) }
-    ensures outputs { WritesOutputs H.told (Some (model instance.now file.now)) (H.world host.old) (H.world host.new) }
-    ensures others { KeepsOtherPorts H.told (Some (model instance.now file.now)) (H.world host.old) (H.world host.new) }
+    ensures { Serves H.told (Some (model instance.now file.now)) result (H.world host.old) (H.world host.new) }
 {
     match load(alloc, host, instance, Limit::Pairs) {
         Ok(inst) => modeled(alloc, host, file, &inst),

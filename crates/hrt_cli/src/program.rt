@@ -3,7 +3,7 @@ ghost use Rattle.std.specs.Prelude.{◌≡◌, ◌⊎◌, ◌==◌, ℕ, List, t
 ghost use Rattle.hrt_base.specs.declared.port.Port.{Port};
 ghost use Rattle.hrt_base.specs.Calls.{AtStart, NoFault, Rose, SentPart};
 ghost use Rattle.hrt_solve.specs.Writing.{SentWhole};
-ghost use Rattle.hrt_cli.specs.Answers.{EndsEarly, IsCutShort, IsWorked, LeavesFronts, SendsNothing};
+ghost use Rattle.hrt_cli.specs.Answers.{IsCutShort, LeavesFronts, SendsNothing, Serves};
 ghost use Rattle.hrt_cli.specs.Ports.{KeepsOtherPorts, ReadsInputs, WritesOutputs};
 ghost use Rattle.hrt_cli.specs.Requests.{asked_by, audit, bound, check, model, quick, request_of, solve, texts_of, verify};
 ghost use Rattle.hrt_cli.specs.Runs.{EndsAs, Finishes, IsComplete, IsDecided, IsDue, KeepsFiles, KeepsOtherFiles, PrintsAudit, PrintsBest, PrintsBound, PrintsClaim, PrintsMet, PrintsOpen, PrintsSizes, WritesModel, has_report, is_code_of, keeps_files};
@@ -14,14 +14,14 @@ use crate::modeling::model;
 use crate::proving::{bound, quick};
 use crate::solve::solve;
 use crate::verifying::verify;
-use crate::{Answer, Command, Ended, Status, command_of};
+use crate::{Answer, Command, Ended, Status, command_of, exit_code};
 use hrt_base::{Begun, Failed, Host, Port, write_all};
 use std::alloc::Global;
 
 /// Does what the words ask for, and answers the code with which the program exits: 0 done, 2 words not understood,
 /// 3 instance refused, 4 a read failed, 5 a write failed, 6 out of memory, 7 a limit passed, 8 model or proof refused, 9 not
 /// weakly stable, 10 shorter than the ceiling, 12 pairs refused.
-#[tactic(auto, using(crate::proofs::Codes::best, crate::proofs::Codes::misused_code, crate::proofs::Codes::understood_code, crate::proofs::Codes::complete, crate::proofs::Codes::read_fault, crate::proofs::Codes::after_read_fault, crate::proofs::Codes::no_output_begun, crate::proofs::Codes::write_fault, crate::proofs::Codes::after_write_fault, crate::proofs::Codes::after_no_memory, crate::proofs::Codes::closed, crate::proofs::Codes::no_fault, crate::proofs::Codes::files_kept, crate::proofs::Codes::others_kept, crate::proofs::WrittenModels::model_written, crate::proofs::Codes::known))]
+#[tactic(auto, using(crate::proofs::Codes::misused_code, crate::proofs::Codes::understood_code, crate::proofs::Codes::read_fault, crate::proofs::Codes::after_read_fault, crate::proofs::Codes::no_output_begun, crate::proofs::Codes::write_fault, crate::proofs::Codes::after_write_fault, crate::proofs::Codes::after_no_memory, crate::proofs::Codes::closed, crate::proofs::Codes::no_fault, crate::proofs::Codes::files_kept, crate::proofs::Codes::others_kept, crate::proofs::Codes::known))]
 pub fn run<H: Host>(alloc: Global, words: &[String], host: &mut H) -> u8
     requires { AtStart H.told (H.world host.old) }
     ensures best { H.told → result ≡ 0 → (instance : List ℕ) → request_of (texts_of words.now) ≡ Some (solve instance) → PrintsBest instance (H.world host.old).content (H.world host.new).content }
@@ -53,12 +53,12 @@ pub fn run<H: Host>(alloc: Global, words: &[String], host: &mut H) -> u8
     ensures files_kept { H.told → keeps_files result ≡ true → KeepsFiles (H.world host.old).content (H.world host.new).content }
     ensures known { is_code_of (request_of (texts_of words.now)) result ≡ true }
 {
-    carry_out(alloc, words, host).code()
+    exit_code(carry_out(alloc, words, host))
 }
 
 // Does what the words ask for, and tells how it ended.
 #[tactic(auto, using(crate::proofs::BegunPorts::at_start_reads, crate::proofs::BegunPorts::at_start_writes, crate::proofs::BegunPorts::sent_whole_reads, crate::proofs::BegunPorts::sent_whole_writes, crate::proofs::BegunPorts::sent_part_reads, crate::proofs::BegunPorts::sent_part_writes, crate::proofs::OtherPorts::nothing_done_keeps, crate::proofs::OtherPorts::report_sent_keeps, crate::proofs::OtherPorts::report_part_keeps))]
-fn carry_out<H: Host>(alloc: Global, words: &[String], host: &mut H) -> Status
+fn carry_out<H: Host>(alloc: Global, words: &[String], host: &mut H) -> Result<Status, Ended>
     requires { AtStart H.told (H.world host.old) }
     ensures ends { EndsAs H.told (request_of (texts_of words.now)) result (H.world host.old) (H.world host.new) }
     ensures inputs { ReadsInputs H.told (request_of (texts_of words.now)) (H.world host.old) (H.world host.new) }
@@ -67,29 +67,23 @@ fn carry_out<H: Host>(alloc: Global, words: &[String], host: &mut H) -> Status
 {
     let Some(command) = command_of(words) else {
         return match send(host, b"words not understood\n") {
-            Ok(()) => Status::Misused,
-            Err(Failed) => Status::WriteFault,
+            Ok(()) => Ok(Status::Misused),
+            Err(Failed) => Err(Ended::WriteFault),
         };
     };
     match answer_to(alloc, host, command) {
         Ok(answer) => match send(host, answer.report.as_bytes()) {
-            Ok(()) => answer.status,
-            Err(Failed) => Status::WriteFault,
+            Ok(()) => Ok(answer.status),
+            Err(Failed) => Err(Ended::WriteFault),
         },
-        Err(Ended::ReadFault) => Status::ReadFault,
-        Err(Ended::WriteFault) => Status::WriteFault,
-        Err(Ended::NoMemory) => Status::NoMemory,
+        Err(why) => Err(why),
     }
 }
 
 // The answer to a command.
 fn answer_to<H: Host>(alloc: Global, host: &mut H, command: Command) -> Result<Answer, Ended>
     requires { AtStart H.told (H.world host.old) }
-    ensures worked { IfOk result (λ answer. IsWorked H.told (Some (asked_by command.entry)) answer (H.world host.old) (H.world host.new)) }
-    ensures ended { IfErr result (λ ended. EndsEarly H.told (Some (asked_by command.entry)) ended (H.world host.old) (H.world host.new)) }
-    ensures inputs { ReadsInputs H.told (Some (asked_by command.entry)) (H.world host.old) (H.world host.new) }
-    ensures outputs { WritesOutputs H.told (Some (asked_by command.entry)) (H.world host.old) (H.world host.new) }
-    ensures others { KeepsOtherPorts H.told (Some (asked_by command.entry)) (H.world host.old) (H.world host.new) }
+    ensures { Serves H.told (Some (asked_by command.entry)) result (H.world host.old) (H.world host.new) }
 {
     match command {
         Command::Solve(instance) => solve(alloc, host, instance),

@@ -4,10 +4,10 @@ ghost use Rattle.hrt_base.specs.Calls.{AtStart, Rose};
 ghost use Rattle.hrt_solve.specs.Gauged.{bound_claim};
 ghost use Rattle.hrt_solve.specs.Writing.{IsBoundText, IsQuickEnd, IsQuickText};
 ghost use Rattle.hrt_inputs.specs.Inputs.{KeepsPorts};
-ghost use Rattle.hrt_cli.specs.Answers.{EndsEarly, IsAnswer, IsWorked};
-ghost use Rattle.hrt_cli.specs.Ports.{BeginsWriting, IsModelOrProof, KeepsOtherPorts, ReadsInputs, WritesOutputs};
+ghost use Rattle.hrt_cli.specs.Answers.{IsAnswer, Serves};
+ghost use Rattle.hrt_cli.specs.Ports.{BeginsWriting, IsModelOrProof};
 ghost use Rattle.hrt_cli.specs.Requests.{bound, quick};
-ghost use Rattle.hrt_cli.specs.Verdicts.{bounded, first_claim, matched};
+ghost use Rattle.hrt_cli.specs.Outcomes.{bounded, first_claim, matched};
 ghost use Rattle.hrt_cli.specs.Writing.{AreBegun, SavesInPart, SavesProof, WritesNothing};
 
 use crate::matches::{bound_report, quick_report};
@@ -27,11 +27,7 @@ pub fn bound<H: Host>(
     proof: &str,
 ) -> Result<Answer, Ended>
     requires { AtStart H.told (H.world host.old) }
-    ensures worked { IfOk result (λ answer. IsWorked H.told (Some (bound instance.now model.now proof.now)) answer (H.world host.old) (H.world host.new)) }
-    ensures ended { IfErr result (λ ended. EndsEarly H.told (Some (bound instance.now model.now proof.now)) ended (H.world host.old) (H.world host.new)) }
-    ensures inputs { ReadsInputs H.told (Some (bound instance.now model.now proof.now)) (H.world host.old) (H.world host.new) }
-    ensures outputs { WritesOutputs H.told (Some (bound instance.now model.now proof.now)) (H.world host.old) (H.world host.new) }
-    ensures others { KeepsOtherPorts H.told (Some (bound instance.now model.now proof.now)) (H.world host.old) (H.world host.new) }
+    ensures { Serves H.told (Some (bound instance.now model.now proof.now)) result (H.world host.old) (H.world host.new) }
 {
     let inst = match load(alloc, host, instance, Limit::Pairs) {
         Ok(inst) => inst,
@@ -52,11 +48,7 @@ pub fn quick<H: Host>(
     proof: &str,
 ) -> Result<Answer, Ended>
     requires { AtStart H.told (H.world host.old) }
-    ensures worked { IfOk result (λ answer. IsWorked H.told (Some (quick instance.now model.now proof.now)) answer (H.world host.old) (H.world host.new)) }
-    ensures ended { IfErr result (λ ended. EndsEarly H.told (Some (quick instance.now model.now proof.now)) ended (H.world host.old) (H.world host.new)) }
-    ensures inputs { ReadsInputs H.told (Some (quick instance.now model.now proof.now)) (H.world host.old) (H.world host.new) }
-    ensures outputs { WritesOutputs H.told (Some (quick instance.now model.now proof.now)) (H.world host.old) (H.world host.new) }
-    ensures others { KeepsOtherPorts H.told (Some (quick instance.now model.now proof.now)) (H.world host.old) (H.world host.new) }
+    ensures { Serves H.told (Some (quick instance.now model.now proof.now)) result (H.world host.old) (H.world host.new) }
 {
     let inst = match load(alloc, host, instance, Limit::Pairs) {
         Ok(inst) => inst,

@@ -2,10 +2,9 @@
 ghost use Rattle.std.specs.Prelude.{◌≡◌, Some, IfErr, IfOk, IsTrue};
 ghost use Rattle.hrt_base.specs.Calls.{AtStart};
 ghost use Rattle.proof_lines.specs.Spelling.{is_small_claim};
-ghost use Rattle.hrt_cli.specs.Answers.{GivesUp, IsAnswer, IsAnswered};
-ghost use Rattle.hrt_cli.specs.Ports.{KeepsOtherPorts, ReadsInputs, WritesOutputs};
+ghost use Rattle.hrt_cli.specs.Answers.{IsAnswer, Serves};
 ghost use Rattle.hrt_cli.specs.Requests.{verify};
-ghost use Rattle.hrt_cli.specs.Verdicts.{verified};
+ghost use Rattle.hrt_cli.specs.Outcomes.{verified};
 
 use crate::claims::verify_report;
 use crate::{Answer, Ended, Status, explain};
@@ -22,11 +21,7 @@ pub fn verify<H: Host>(
     proof: &str,
 ) -> Result<Answer, Ended>
     requires { AtStart H.told (H.world host.old) }
-    ensures answered { IfOk result (λ answer. IsAnswered H.told (Some (verify instance.now proof.now)) answer (H.world host.old) (H.world host.new)) }
-    ensures ended { IfErr result (λ ended. GivesUp H.told ended (H.world host.old) (H.world host.new)) }
-    ensures inputs { ReadsInputs H.told (Some (verify instance.now proof.now)) (H.world host.old) (H.world host.new) }
-    ensures outputs { WritesOutputs H.told (Some (verify instance.now proof.now)) (H.world host.old) (H.world host.new) }
-    ensures others { KeepsOtherPorts H.told (Some (verify instance.now proof.now)) (H.world host.old) (H.world host.new) }
+    ensures { Serves H.told (Some (verify instance.now proof.now)) result (H.world host.old) (H.world host.new) }
 {
     let inst = match load(alloc, host, instance, Limit::Pairs) {
         Ok(inst) => inst,

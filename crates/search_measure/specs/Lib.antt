@@ -1,0 +1,5 @@
+pub mod Ahead
+pub mod Trails
+pub mod Moves
+pub mod Learning
+pub mod Agreeing

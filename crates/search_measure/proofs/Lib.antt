@@ -6,3 +6,6 @@ pub mod Exact
 pub mod LearnedRows
 pub mod Agreeing
 pub mod Moved
+pub mod NoteTexts
+pub mod Recorded
+pub mod Learned

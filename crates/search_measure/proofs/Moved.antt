@@ -32,7 +32,7 @@ open-kept set r (inr p) k =
     true≢false
     (sym (All-contains (IsSettled set r) r.terms p.1.term k.settled p.1.has (not-true (set (opposite_lit p.1.term.lit)) free.1) p.1.propagates.exceeds) ∙ not-true (set p.1.term.lit) free.0)
 
-rows-held : (P : PlainRow → Type 0) (held : List Held) → All P (held_rows held) → All (λ (h : Held). P h.row) held
+pub rows-held : (P : PlainRow → Type 0) (held : List Held) → All P (held_rows held) → All (λ (h : Held). P h.row) held
 rows-held P [] all = All-nil (λ (h : Held). P h.row)
 rows-held P (h ∷ held) all = All-cons (λ (x : Held). P x.row) h held (All-head P h.row (held_rows held) all) (rows-held P held (All-tail P h.row (held_rows held) all))
 

@@ -3,3 +3,4 @@ pub mod Trails
 pub mod Moves
 pub mod Learning
 pub mod Agreeing
+pub mod Recorded

@@ -4,6 +4,7 @@
 
 mod learning;
 mod moves;
+mod texts;
 
 pub use learning::{
     held_above_ground, learn_notes_are_true, learn_notes_have_sizes, learned_is_fresh,
@@ -12,4 +13,8 @@ pub use learning::{
 pub use moves::{
     added_is_ahead, conflict_keeps_later, decision_is_ahead, idle_is_exact, learned_is_ahead,
     quiet_is_level, restarts_level, starts_ahead,
+};
+pub use texts::{
+    counted_is_bounded, later_row_is_learned, learned_is_bounded, lines_keep_learned, notes_learn,
+    nothing_is_learned, pieces_go_on, restart_ends_stretch, uncounted_learn_nothing,
 };

@@ -1,2 +1,0 @@
-mod WorkedBounds
-mod WorkedLaws

@@ -1,1 +1,3 @@
+mod WorkedBounds
 mod WorkedCalls
+mod WorkedLaws

@@ -6,7 +6,7 @@ use Rattle.stability_model.specs.Gone.{ceiling, posts_left, residents_left}
 use Rattle.proof_lines.specs.declared.line.PolStep.TheVariants.{Id, Axiom, Add}
 use Rattle.proof_lines.specs.Spelling.{row_no}
 use Rattle.derivation.specs.Deletions.{Deletions, is_deleted}
-use Rattle.derivation.specs.Worked.{of_all, tied}
+use Rattle.library_tests.specs.Worked.{of_all, tied}
 use Rattle.capacity_bound.specs.Steps.{Both, Row, bound_operands, steps_of}
 use Rattle.capacity_bound.specs.Bound.{bound_row}
 

@@ -6,7 +6,7 @@ use Rattle.std.proofs.lemmas.List.Elements.{All-head}
 use Rattle.proof_lines.specs.declared.line.PolStep.TheVariants.{Id}
 use Rattle.proof_lines.specs.Spelling.{row_no}
 use Rattle.derivation.specs.Traces.{IsKnownStep, IsLawfulText, trace_of}
-use Rattle.derivation.specs.Worked.{tied}
+use Rattle.library_tests.specs.Worked.{tied}
 
 abbrev lined : List (List ℕ) → List ℕ
 lined texts = flat_map (λ text. text ++ 10 ∷ []) texts

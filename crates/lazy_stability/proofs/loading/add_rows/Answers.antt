@@ -1,4 +1,4 @@
-use Rattle.std.proofs.Common.{◌+◌, ◌-◌, take, ◌∙◌, ap}
+use Rattle.std.proofs.Common.{arith, ◌+◌, ◌-◌, take, ◌∙◌, ap}
 use Rattle.std.specs.Prelude.{slice_get}
 use Rattle.stability_model.specs.Model.{rows}
 use Rattle.row_arena.specs.declared.arena.Place.{Place}
@@ -13,4 +13,4 @@ loop-p-preserved c =
     (c.push_reserved.ensures.items ∙ ap (λ (ps : List Place). ps ++ c.in_ok-place.place ∷ []) c.in_ok-reserve.ensures.items)
     (take_next c.args.pairs.now c.loop-p.p-index (record { 0 = 0 }) c.loop-p-test.true)
     (same_row (slice_get (rows c.args.model.now) (c.pair_row-number.result - 1)) c.in_ok-row.row _ c.in_ok-row.ensures c.pair_row-number.ensures.row)
-    (c.from.ensures ∙ c.pair_row-number.ensures.number)
+    (omega (arith, c.from.ensures, c.pair_row-number.ensures.number))

@@ -11,14 +11,14 @@ pub returns-then-count-out-clause-count : goal.returns-then-count-out-clause-cou
 returns-then-count-out-clause-count c =
     let lists = c.args.inst.now in
     let test = blocks lists (pairs_of_point lists (point_of_trail c.args.engine.now.trail)) in
-    full_count test c.loop-p.p (pair_count lists) c.loop-p.count c.loop-p.out c.args.out.now c.loop-p.invariant.room c.loop-p.invariant.size c.loop-p.invariant.written c.loop-p.auto.p
+    full_count test c.loop-p.p (pair_count lists) c.loop-p.count c.loop-p.out c.args.out.now c.loop-p.invariant.room c.loop-p.invariant.size c.loop-p.invariant.written (omega (arith, c.loop-p.auto.p))
     (omega (arith, c.loop-p-test.true, c.pairs-p-end.ensures.count)) (sym c.blocks-in-loop-p.ensures ∙ c.if-not-blocks.false) c.if-count-out.true (length-set c.loop-p.out c.loop-p.count (record { 0 = c.loop-p.p }))
 
 pub returns-then-count-out-clause-pairs : goal.returns-then-count-out-clause-pairs
 returns-then-count-out-clause-pairs c =
     let lists = c.args.inst.now in
     let test = blocks lists (pairs_of_point lists (point_of_trail c.args.engine.now.trail)) in
-    full_written test c.loop-p.p (pair_count lists) c.loop-p.count c.loop-p.out c.args.out.now c.loop-p.invariant.room c.loop-p.invariant.size c.loop-p.invariant.written c.loop-p.auto.p
+    full_written test c.loop-p.p (pair_count lists) c.loop-p.count c.loop-p.out c.args.out.now c.loop-p.invariant.room c.loop-p.invariant.size c.loop-p.invariant.written (omega (arith, c.loop-p.auto.p))
     (omega (arith, c.loop-p-test.true, c.pairs-p-end.ensures.count)) (sym c.blocks-in-loop-p.ensures ∙ c.if-not-blocks.false) c.if-count-out.true (length-set c.loop-p.out c.loop-p.count (record { 0 = c.loop-p.p }))
 
 pub loop-p-preserved : goal.loop-p-preserved
@@ -28,7 +28,7 @@ loop-p-preserved c =
     record {
       room = room_next c.loop-p.out c.loop-p.count (record { 0 = c.loop-p.p }) c.loop-p.invariant.room c.if-count-out.false;
       size = length-set c.loop-p.out c.loop-p.count (record { 0 = c.loop-p.p }) ∙ c.loop-p.invariant.size;
-      written = written_next test c.loop-p.p c.loop-p.count c.loop-p.out c.loop-p.invariant.room c.loop-p.invariant.written c.loop-p.auto.p (sym c.blocks-in-loop-p.ensures ∙ c.if-not-blocks.false);
+      written = written_next test c.loop-p.p c.loop-p.count c.loop-p.out c.loop-p.invariant.room c.loop-p.invariant.written (omega (arith, c.loop-p.auto.p)) (sym c.blocks-in-loop-p.ensures ∙ c.if-not-blocks.false);
       rest = rest_next c.loop-p.out c.args.out.now c.loop-p.count (record { 0 = c.loop-p.p }) c.loop-p.invariant.room c.loop-p.invariant.size c.loop-p.invariant.rest;
     }
 
@@ -39,6 +39,6 @@ loop-p-preserved-then-not-blocks c =
     record {
       room = c.loop-p.invariant.room;
       size = c.loop-p.invariant.size;
-      written = c.loop-p.invariant.written ∙ sym (fails test c.loop-p.p c.loop-p.auto.p (sym c.blocks-in-loop-p.ensures ∙ c.if-not-blocks.true));
+      written = c.loop-p.invariant.written ∙ sym (fails test c.loop-p.p (omega (arith, c.loop-p.auto.p)) (sym c.blocks-in-loop-p.ensures ∙ c.if-not-blocks.true));
       rest = c.loop-p.invariant.rest;
     }

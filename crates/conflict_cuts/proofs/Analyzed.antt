@@ -48,7 +48,7 @@ none_numbered : (n : ℕ) (live : List NumberedRow) → row_of n live ≡ None �
 none_numbered n [] e = refl
 none_numbered n (entry ∷ live) e = none_step (entry.number == n) (is_numbered n live) entry (row_of n live) (none_numbered n live) e
 
-below_next : (n next : ℕ) (live : List NumberedRow) → AreNumbered 1 next live → is_numbered n live ≡ true → n < next
+pub below_next : (n next : ℕ) (live : List NumberedRow) → AreNumbered 1 next live → is_numbered n live ≡ true → n < next
 below_next n next live order h = elim (cases_lt n next) [
   | inl l ↦ l
   | inr g ↦ absurd (true≢false (sym h ∙ none_numbered n live (none-from n 1 next live g order)))

@@ -1,5 +1,5 @@
 -- The candidate of a full quiet engine is a matching where the rows of residents and hospitals are held.
-use Rattle.std.proofs.Common.{◌≡◌, ℕ, ◌+◌, ◌-◌, ◌<◌, ◌==◌, Bool, true, false, ◌&&◌, nat_le, if◌then◌else◌, List, [], ◌∷◌, ◌++◌, length, map, filter, count_by, get_or, ℤ, pos, neg_ℤ, ◌+ℤ◌, int_le, refl, sym, ap, ◌∙◌, subst, inl, inr, arith, length-append}
+use Rattle.std.proofs.Common.{le-leb, ◌≡◌, ℕ, ◌+◌, ◌-◌, ◌<◌, ◌==◌, Bool, true, false, ◌&&◌, nat_le, if◌then◌else◌, List, [], ◌∷◌, ◌++◌, length, map, filter, count_by, get_or, ℤ, pos, neg_ℤ, ◌+ℤ◌, int_le, refl, sym, ap, ◌∙◌, subst, inl, inr, arith, length-append}
 use Rattle.std.specs.Prelude.{IsTrue, Some, slice_get}
 use Rattle.std.specs.List.{All}
 use Rattle.std.proofs.lemmas.Bool.{and_from, and_parts, eq-eqb, eqb-true, leb-true, lt-ltb, or_cases}
@@ -32,10 +32,13 @@ use Rattle.derivation.specs.Ready.{IsReady}
 use Rattle.agreement.proofs.Numbers.{or_first}
 use Rattle.agreement.proofs.SameRows.{held_row}
 use Rattle.lazy_stability.specs.Candidates.{point_of_trail}
-use Rattle.lazy_stability.specs.Laws.{CandidatesAreMatchings, FirstStayHeld, NotesKeepFirst}
+use Rattle.lazy_stability.specs.Laws.{CandidatesAreMatchings, FirstStayHeld, NotesKeepFirst, StartsHoldFirst}
 use Rattle.lazy_stability.proofs.Honest.{hold_at}
 
--- ---- notes
+-- ---- which rows stay held
+
+pub first_at_start : StartsHoldFirst
+first_at_start lists n low high = is_in-numbers_to (pair_row_no lists 0) n ∙ and_from (nat_le 1 n) (nat_le n (pair_row_no lists 0)) (le-leb 1 n low) (le-leb n (pair_row_no lists 0) high)
 
 more_kept : (n : ℕ) (kept numbers : List ℕ) → is_in n kept ≡ true → is_in n (kept ++ numbers) ≡ true
 more_kept n kept numbers h = is_in-append n kept numbers ∙ or_first (is_in n kept) (is_in n numbers) h

@@ -18,7 +18,7 @@ use Rattle.proof_rules.specs.Notes.{HonestLoad}
 use Rattle.proof_rules.specs.Told.{AreTrueNotes, NoteAt, held_by, notes_of}
 use Rattle.derivation.specs.Derived.{Derived}
 use Rattle.derivation.specs.Ready.{IsReady}
-use Rattle.derivation.specs.Steps.{with_note}
+use Rattle.derivation.specs.Steps.{first_derived, with_note}
 use Rattle.derivation.specs.Traces.{IsLawfulText, Trace}
 use Rattle.derivation.specs.Pieces.{ANote, AddsLawfully, TakesNote}
 use Rattle.pb_propagate.specs.Engines.{EngineState, IsIdle}
@@ -36,6 +36,10 @@ FullWhereNoneIsFree = (e : EngineState) → IsInOrder e → length e.trail ≡ e
 -- the rows of residents and of hospitals stay held
 abbrev pub FirstStayHeld : Derived → Type 0
 FirstStayHeld d = (n : ℕ) → 1 ≤ n → n ≤ pair_row_no d.lists 0 → IsTrue (is_in n d.held.kept)
+
+-- they do at the start of a proof
+abbrev pub StartsHoldFirst : Type 0
+StartsHoldFirst = (lists : Lists) → FirstStayHeld (first_derived lists)
 
 -- they do after whatever note
 abbrev pub NotesKeepFirst : Type 0

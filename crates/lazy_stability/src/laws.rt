@@ -1,5 +1,5 @@
 // What a search uses beside the contracts of the calls.
-ghost use Rattle.lazy_stability.specs.Laws.{CandidatesAreMatchings, FullWhereNoneIsFree, LawfulRowsAreLazy, LoadsAreLawful, NotesKeepFirst};
+ghost use Rattle.lazy_stability.specs.Laws.{CandidatesAreMatchings, FullWhereNoneIsFree, LawfulRowsAreLazy, LoadsAreLawful, NotesKeepFirst, StartsHoldFirst};
 
 use derivation::held_rows_are_loaded;
 
@@ -7,6 +7,11 @@ use derivation::held_rows_are_loaded;
 #[tactic(auto, using(crate::proofs::Filled::filled))]
 pub fn full_where_none_is_free()
     ensures { FullWhereNoneIsFree }
+{}
+
+/// A proof begins with the rows of residents and of hospitals held.
+pub fn starts_hold_first()
+    ensures { StartsHoldFirst }
 {}
 
 /// The rows of residents and of hospitals stay held, whatever note is added.

@@ -9,7 +9,7 @@ mod table;
 
 pub use laws::{
     candidates_are_matchings, full_where_none_is_free, lawful_rows_are_lazy, loads_are_lawful,
-    notes_keep_first,
+    notes_keep_first, starts_hold_first,
 };
 pub use loading::load;
 pub use posts::Posts;

@@ -1,0 +1,6 @@
+mod Holding
+mod Deciding
+mod Learning
+mod Starting
+mod Logging
+mod Points

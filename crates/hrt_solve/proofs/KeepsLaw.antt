@@ -1,21 +1,19 @@
 -- The lines of a bound and of a quick solve keep the law of a written proof.
-use Rattle.std.proofs.Common.{◌≡◌, ℕ, zero, suc, ◌+◌, ◌-◌, ◌*◌, ◌<◌, ◌≤◌, ◌==◌, ◌||◌, true, false, ℤ, List, [], ◌∷◌, ◌++◌, nat_le, length, get_or, refl, sym, ap, ◌∙◌, subst, inl, inr, arith}
-use Rattle.std.specs.Prelude.{IsTrue, is_some, slice_get, Option, Some, None}
+use Rattle.std.proofs.Common.{◌≡◌, ℕ, zero, suc, ◌+◌, ◌<◌, ◌==◌, true, false, ℤ, List, [], ◌∷◌, ◌++◌, nat_le, length, refl, sym, ap, ◌∙◌, subst, inl, inr, arith}
+use Rattle.std.specs.Prelude.{is_some, Option, Some, None}
 use Rattle.std.specs.List.{All}
 use Rattle.std.proofs.lemmas.Bool.{eq-eqb, eqb-true, or_cases, or_left, or_right}
 use Rattle.std.proofs.lemmas.List.Elements.{All-cons, All-nil}
-use Rattle.std.proofs.lemmas.Option.{slice_get-get_or}
 use Rattle.hrt_base.specs.declared.literal.Lit.{Lit}
 use Rattle.hrt_base.specs.declared.numbered.RowNo.{RowNo}
 use Rattle.pb_rows.specs.Terms.{PlainRow}
 use Rattle.pb_rows.specs.Formula.{NumberedRow, is_numbered}
 use Rattle.rank_tables.specs.Numbers.{is_in}
-use Rattle.rank_tables.specs.Instance.{Lists, pair_count}
+use Rattle.rank_tables.specs.Instance.{Lists}
 use Rattle.stability_model.specs.Gone.{AreGone}
 use Rattle.stability_model.specs.Model.{formula, rows}
 use Rattle.proof_lines.specs.declared.line.Claim.{Claim}
 use Rattle.proof_lines.specs.declared.line.Line.TheVariants.{Conclusion, Count, Pol, Soli}
-use Rattle.proof_lines.specs.declared.line.PolStep.{PolStep}
 use Rattle.proof_lines.specs.declared.line.PolStep.TheVariants.{Id, Add}
 use Rattle.proof_lines.specs.declared.note.Note.TheVariants.{Bound as BoundRow}
 use Rattle.proof_rules.specs.Claims.{Shows}
@@ -23,23 +21,23 @@ use Rattle.proof_rules.specs.Valid.{Done, Proving}
 use Rattle.proof_rules.specs.Told.{Told}
 use Rattle.proof_rules.specs.Held.{Held, is_held, keeping}
 use Rattle.proof_rules.proofs.Held.{is_held-keeping}
-use Rattle.proof_rules.proofs.HeldLive.{held_live-keeping, held_live-push}
+use Rattle.proof_rules.proofs.HeldLive.{held_live-keeping}
 use Rattle.derivation.specs.Deletions.{Deletions, is_deleted}
 use Rattle.derivation.specs.Derived.{Derived, StandsFor}
 use Rattle.derivation.specs.Pieces.{ALine, ANote, Piece, StandsTraced, TakesLine, opened, traced}
 use Rattle.derivation.specs.Ready.{IsReady}
 use Rattle.derivation.specs.Steps.{IsWritable, concluded, first_derived, with_new_row, with_solution}
-use Rattle.derivation.specs.Traces.{AreAllGone, IsKnownStep, IsLawfulPol, IsLawfulProof, IsLawfulText, Trace, most_between, since_line, trace_of}
+use Rattle.derivation.specs.Traces.{AreAllGone, IsKnownStep, IsLawfulPol, IsLawfulProof, IsLawfulText, Trace, since_line, trace_of}
 use Rattle.derivation.proofs.EndsTraced.{ends_lawful, starts_traced}
 use Rattle.derivation.proofs.NoneDeleted.{none_deleted}
-use Rattle.derivation.proofs.Readiness.{ready_row, row_front}
+use Rattle.derivation.proofs.Readiness.{ready_row}
 use Rattle.derivation.proofs.Traced.{open_place, pieces_traced}
 use Rattle.pair_reduction.specs.Added.{TellsUnits}
 use Rattle.pair_reduction.specs.Reduced.{GoesOn, HoldsUnits}
 use Rattle.capacity_bound.specs.Bound.{AddsBound, AddsBoundLawfully, DerivesBound}
 use Rattle.hrt_solve.specs.Gauged.{HasBoundRow}
 use Rattle.hrt_solve.specs.Lawful.{AddsClosing, IsLawfulSoFar, IsLawfulWith, IsMarked}
-use Rattle.hrt_solve.specs.Logged.{Closes, Logs, larger_row}
+use Rattle.hrt_solve.specs.Logged.{Closes, Logs}
 
 -- ---- a row that is held
 

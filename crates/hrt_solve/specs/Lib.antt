@@ -3,3 +3,4 @@ pub mod Gauged
 pub mod Logged
 pub mod Lawful
 pub mod Writing
+pub mod Searched

@@ -10,10 +10,12 @@ mod logging;
 mod reading;
 mod refusal;
 mod saving;
+mod searching;
 mod solving;
 
 pub use bounding::bound;
 pub use checking::{check, verify};
 pub use ends::{BoundEnd, SolveEnd};
 pub use refusal::CheckRefusal;
+pub use searching::solve;
 pub use solving::quick;

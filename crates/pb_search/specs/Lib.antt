@@ -1,2 +1,4 @@
 pub mod Searching
 pub mod Moves
+pub mod Knowing
+pub mod Tried

@@ -2,3 +2,4 @@ pub mod Searching
 pub mod Moves
 pub mod Knowing
 pub mod Tried
+pub mod Opening

@@ -117,9 +117,9 @@ calm_restarts first budget restarts since e new d c many r = record {
 -- ---- after a conflict
 
 pub learns : ConflictLearns
-learns first budget restarts since level id row l e new d made noted o c room a p lower r = record {
+learns first budget restarts since level id row l e new d made noted o c room a p r = record {
   joined = record { ready = r.ready; agree = r.agree; within = omega (arith, room, ap (λ (x : Derived). x.held.learn_notes) r.note.is, ap (λ (h : Noted). h.learn_notes) a.held) };
-  kept = back-kept e new (h ∷ []) level r.held r.trail (λ k low. All-append (λ (x : Held). Keeps (set_at k e) x.row) e.held (h ∷ []) (exact-rows e k (c.exact k (omega (arith, low, p.below)))) (All-cons (λ (x : Held). Keeps (set_at k e) x.row) h [] (lower k low) (All-nil (λ (x : Held). Keeps (set_at k e) x.row))));
+  kept = back-kept e new (h ∷ []) level r.held r.trail (λ k low. All-append (λ (x : Held). Keeps (set_at k e) x.row) e.held (h ∷ []) (exact-rows e k (c.exact k (omega (arith, low, p.below)))) (All-cons (λ (x : Held). Keeps (set_at k e) x.row) h [] (p.lowest k low) (All-nil (λ (x : Held). Keeps (set_at k e) x.row))));
   measured = record {
     last = sizes;
     learned = later_learned first made noted restarts since c.measured.last sizes learned analyzed (record { lists = ap (λ (x : Derived). x.lists) r.note.is; more = note_text (Learn id (decisions_at level e) l); pending = ap (λ (x : Derived). x.pending) r.note.is; valid = r.valid })

@@ -17,8 +17,8 @@ use Rattle.pb_propagate.specs.Entries.{level_of, up_to}
 use Rattle.pb_propagate.specs.Engines.{AreKeptBelow, EngineState, IsIdle, decisions_at, set_at}
 use Rattle.pb_propagate.specs.Moments.{IsInOrder}
 use Rattle.conflict_cuts.specs.Exact.{ReachesConflict, ReachesQuiet}
+use Rattle.conflict_cuts.specs.Learned.{Asserts}
 use Rattle.agreement.specs.Agreement.{Agree}
-use Rattle.search_measure.specs.Learning.{PropagatesBelow}
 use Rattle.search_measure.specs.Recorded.{GoesOn, HasLearned}
 use Rattle.search_measure.specs.Trails.{SomeOpen}
 use Rattle.pb_search.specs.Searching.{AreJoined, IsCalm, IsSearching, MeetsConflict}
@@ -91,7 +91,7 @@ pub record LearnsRow (id : RowNo) (row : PlainRow) (level : ℕ) (l : Lit) (e ne
 abbrev pub ConflictLearns : Type 0
 ConflictLearns =
     (first : Derived) (budget restarts since level : ℕ) (id : RowNo) (row : PlainRow) (l : Lit) (e new : EngineState) (d made noted : Derived) → IsInOrder e → MeetsConflict first budget restarts since e d → d.held.learn_notes < budget →
-    Analyzed e d made → PropagatesBelow e row level l → ((k : ℕ) → k < level → Keeps (set_at k e) row) → LearnsRow id row level l e new made noted → IsSearching first budget restarts (since + 1) new noted
+    Analyzed e d made → Asserts e row level l → LearnsRow id row level l e new made noted → IsSearching first budget restarts (since + 1) new noted
 
 -- ---- the end
 

@@ -48,19 +48,20 @@ pub record GoesFurther (budget ceiling : ℕ) (bound : RowNo) (before after : Li
   pub less : work_left ceiling after made < work_left ceiling before d
 
 -- the candidate is as large as the ceiling: it was logged, and a row that holds nowhere was made
-pub record ReachesCeiling (ceiling : ℕ) (after : List PairNo) (d made : Derived) : Type 0 where
+pub record ReachesCeiling (ceiling : ℕ) (bound : RowNo) (after : List PairNo) (d made : Derived) : Type 0 where
   pub goes_on : GoesOn d made
   pub lawful : StaysLawful d made
   pub unlearned : made.held.learn_notes ≡ d.held.learn_notes
   pub ready : IsReady made
   pub found : IsFound after made
   pub met : length after ≡ ceiling
+  pub bound_live : row_of bound.0 made.state.live ≡ Some (ceiling_row made.lists ceiling)
   pub contradiction : HasContradiction made
 
 -- what trying the candidate comes to, by the move that it makes
 abbrev pub TriesCandidate : ℕ → ℕ → RowNo → List PairNo → List PairNo → EngineState → EngineState → Derived → Derived → Move → Type 0
 TriesCandidate budget ceiling bound before after e new d made On = GoesFurther budget ceiling bound before after e new d made
-TriesCandidate budget ceiling bound before after e new d made Best = ReachesCeiling ceiling after d made
+TriesCandidate budget ceiling bound before after e new d made Best = ReachesCeiling ceiling bound after d made
 TriesCandidate budget ceiling bound before after e new d made Bounded = ⊥
 
 -- ---- the end

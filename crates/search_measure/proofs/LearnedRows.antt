@@ -18,7 +18,8 @@ use Rattle.pb_propagate.specs.Open.{PropagatesLit}
 use Rattle.pb_propagate.specs.Tables.{starts_from}
 use Rattle.pb_propagate.proofs.Starts.{starts-at, starts-up_to, up_to-take}
 use Rattle.search_measure.specs.Trails.{IsExactBelow}
-use Rattle.search_measure.specs.Learning.{LearnedHasSizes, LearnedIsFresh, PropagatesBelow}
+use Rattle.conflict_cuts.specs.Learned.{Asserts as AssertsAt}
+use Rattle.search_measure.specs.Learning.{LearnedHasSizes, LearnedIsFresh}
 use Rattle.search_measure.proofs.TrailSizes.{variables}
 use Rattle.search_measure.proofs.Levels.{AreLevels, IsAssigned, IsKnown, front-assigned, levels-fresh, levels-sizes}
 use Rattle.search_measure.proofs.Exact.{levels-exact}
@@ -102,7 +103,7 @@ propagated-open set row l p =
     let parts = and_parts (not (set p.term.lit)) (not (set (opposite_lit p.term.lit))) p.propagates.free in
     subst (IsOpen set) p.lit (record { not_true = not-true (set p.term.lit) parts.0; not_false = not-true (set (opposite_lit p.term.lit)) parts.1 })
 
-literal-known : (e : EngineState) (row : PlainRow) (level : ℕ) (l : Lit) → PropagatesBelow e row level l → IsKnown e.vars l
+literal-known : (e : EngineState) (row : PlainRow) (level : ℕ) (l : Lit) → AssertsAt e row level l → IsKnown e.vars l
 literal-known e row level l p =
     subst (IsKnown e.vars) p.propagates.lit (All-contains (λ (t : Term). IsKnown e.vars t.lit) row.terms p.propagates.term p.over p.propagates.has)
 

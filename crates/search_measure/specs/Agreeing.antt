@@ -15,9 +15,9 @@ use Rattle.pb_propagate.specs.Engines.{EngineState, decisions_at}
 use Rattle.pb_propagate.specs.Moments.{IsInOrder}
 use Rattle.pb_propagate.specs.Tables.{starts_from}
 use Rattle.agreement.specs.Agreement.{Agree, AreSameRows}
+use Rattle.conflict_cuts.specs.Learned.{Asserts}
 use Rattle.search_measure.specs.Ahead.{sizes_at}
 use Rattle.search_measure.specs.Trails.{IsExactBelow}
-use Rattle.search_measure.specs.Learning.{PropagatesBelow}
 
 -- lists of the same rows have the same closures
 abbrev pub SameRowsSameClosures : Type 0
@@ -33,12 +33,12 @@ SameRowsSameSizes = (vars : ℕ) (rs qs : List PlainRow) (decisions : List Lit) 
 
 -- so the note of a row that is learned from an engine that agrees is true
 abbrev pub LearnNoteIsTrue : Type 0
-LearnNoteIsTrue = (e : EngineState) (d : Derived) (id : RowNo) (row : PlainRow) (level : ℕ) (l : Lit) → IsInOrder e → Agree e d → AreNumbersInOrder d.state → IsExactBelow e → PropagatesBelow e row level l →
+LearnNoteIsTrue = (e : EngineState) (d : Derived) (id : RowNo) (row : PlainRow) (level : ℕ) (l : Lit) → IsInOrder e → Agree e d → AreNumbersInOrder d.state → IsExactBelow e → Asserts e row level l →
     row_of id.0 d.state.live ≡ Some row → IsTrueNote d.lists d.state.live d.held (Learn id (decisions_at level e) l)
 
 -- and its sizes are the trail's lengths
 abbrev pub LearnNoteHasSizes : Type 0
-LearnNoteHasSizes = (e : EngineState) (d : Derived) (row : PlainRow) (level : ℕ) (l : Lit) → IsInOrder e → Agree e d → AreNumbersInOrder d.state → IsExactBelow e → PropagatesBelow e row level l →
+LearnNoteHasSizes = (e : EngineState) (d : Derived) (row : PlainRow) (level : ℕ) (l : Lit) → IsInOrder e → Agree e d → AreNumbersInOrder d.state → IsExactBelow e → Asserts e row level l →
     HaveSizes e.vars (held_rows d.state.live d.held) [] (decisions_at level e) l (sizes_at (starts_from 0 e.trail) level)
 
 -- above level 0 the rows that are held aren't refuted

@@ -3,10 +3,10 @@ mod Asked
 mod Written
 mod Blocking
 mod Full
-mod Honest
+pub mod Honest
 mod LoadText
 mod Added
-mod Loaded
-mod Filled
-mod Lazy
-mod Matched
+pub mod Loaded
+pub mod Filled
+pub mod Lazy
+pub mod Matched

@@ -3,3 +3,5 @@ pub mod Moves
 pub mod Knowing
 pub mod Tried
 pub mod Opening
+pub mod Returning
+pub mod Loading

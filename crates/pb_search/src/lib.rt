@@ -5,9 +5,11 @@
 mod candidate;
 mod found;
 mod laws;
+mod loading;
 mod looping;
 mod moves;
 mod opening;
+mod returning;
 
 pub use found::Found;
 pub use laws::{

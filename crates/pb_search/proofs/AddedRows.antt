@@ -24,7 +24,7 @@ pub record Stands (held : List Held) (h : Held) : Type 0 where
   pub is : is_held h.place held ≡ true
 
 own : (held : List Held) → All (λ (h : Held). is_held h.place held ≡ true) held
-own [] = All-nil (λ (h : Held). is_held h.place [] ≡ true)
+own [] k d h = absurd (omega arith)
 own (x ∷ held) zero d h = or_first (x.place == x.place) (is_held x.place held) (eq-eqb x.place x.place refl)
 own (x ∷ held) (suc k) d h = or_second ((get_or held k d).place == x.place) (is_held (get_or held k d).place held) (own held k d (omega arith))
 

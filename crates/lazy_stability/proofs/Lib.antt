@@ -1,6 +1,6 @@
 mod Tabled
 mod Asked
-mod Written
+pub mod Written
 mod Blocking
 mod Full
 pub mod Honest
@@ -10,3 +10,4 @@ pub mod Loaded
 pub mod Filled
 pub mod Lazy
 pub mod Matched
+mod Listed

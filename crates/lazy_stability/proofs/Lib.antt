@@ -2,7 +2,7 @@ mod Tabled
 mod Asked
 pub mod Written
 mod Blocking
-mod Full
+pub mod Full
 pub mod Honest
 mod LoadText
 mod Added

@@ -5,3 +5,4 @@ pub mod Tried
 pub mod Opening
 pub mod Returning
 pub mod Loading
+pub mod Improving

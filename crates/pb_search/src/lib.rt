@@ -4,6 +4,7 @@
 
 mod candidate;
 mod found;
+mod improving;
 mod laws;
 mod loading;
 mod looping;

@@ -3,11 +3,15 @@
 #![tactic(auto)]
 
 mod candidate;
+mod conflict;
 mod found;
 mod laws;
+mod learning;
+mod limits;
 mod looping;
 mod moves;
 mod opening;
+mod quiet;
 
 pub use found::Found;
 pub use laws::{

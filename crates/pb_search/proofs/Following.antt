@@ -15,6 +15,7 @@ use Rattle.proof_rules.specs.States.{IsInOrder as AreNumbersInOrder}
 use Rattle.proof_rules.specs.Told.{learned_rows, notes_of}
 use Rattle.proof_rules.proofs.Numbers.{live_within}
 use Rattle.derivation.specs.Derived.{Derived}
+use Rattle.derivation.specs.Pieces.{CutsStayTraced}
 use Rattle.derivation.specs.Ready.{IsReady}
 use Rattle.pb_propagate.specs.Entries.{level_of}
 use Rattle.pb_propagate.specs.Engines.{EngineState, decisions_at}
@@ -79,17 +80,17 @@ spent_follows limits e d order above spent first pairs c = (
 )
 
 -- a row holds nowhere
-pub root_follows : (limits : Limits) (e new : EngineState) (d made : Derived) (id : RowNo) → AreNumbersInOrder d.state → Analyzes d made → NamesContradiction d made id →
+pub root_follows : CutsStayTraced → (limits : Limits) (e new : EngineState) (d made : Derived) (id : RowNo) → AreNumbersInOrder d.state → Analyzes d made → NamesContradiction d made id →
     (first : Derived) (pairs : List PairNo) → IsAtConflict limits pairs first e d → Follows limits pairs first d new made Best
-root_follows limits e new d made id order a root first pairs c = (
-  searched limits pairs first d made c.since c.is.measured.last c.come c.is.measured.learned c.is.joined.within (goes_cuts d made a) (cuts_lawful d made c.is.joined.ready order a) (ap (λ (h : Held). h.learn_notes) a.held) a.ready
+root_follows law limits e new d made id order a root first pairs c = (
+  searched limits pairs first d made c.since c.is.measured.last c.come c.is.measured.learned c.is.joined.within (goes_cuts d made a) (cuts_lawful law d made c.is.joined.ready order a) (ap (λ (h : Held). h.learn_notes) a.held) a.ready
       (ceiling_live limits.ceiling limits.bound_row pairs d made order a c.come.knows),
   found_kept pairs d made a.lists a.least c.come.knows.found,
   record { id = id; row = root.row; live = root.left.live; contradicts = root.contradicts },
 )
 
 -- a row is learned
-module _ (limits : Limits) (conflict : PlainRow) (level : ℕ) (id : RowNo) (row : PlainRow) (l : Lit) (e new : EngineState) (d made noted : Derived) (o : IsInOrder e) (order : AreNumbersInOrder d.state) (numbers : AreNumbersInOrder made.state) (a : Analyzes d made)
+module _ (law : CutsStayTraced) (limits : Limits) (conflict : PlainRow) (level : ℕ) (id : RowNo) (row : PlainRow) (l : Lit) (e new : EngineState) (d made noted : Derived) (o : IsInOrder e) (order : AreNumbersInOrder d.state) (numbers : AreNumbersInOrder made.state) (a : Analyzes d made)
     (learned : LearnsClause e conflict d made id row level l) (r : LearnsRow id row level l e new made noted) where
   last : id.0 < made.state.next
   last = (live_within id.0 made.state.next row made.state.live numbers learned.left.live).1
@@ -113,7 +114,7 @@ module _ (limits : Limits) (conflict : PlainRow) (level : ℕ) (id : RowNo) (row
     come = record {
       unlearned = c.come.unlearned;
       goes_on = goes_then first d noted c.come.goes_on noted_on;
-      marked = marked_then first d noted c.come.marked (learn_marked d made noted id (decisions_at level e) l c.is.joined.ready order a behind learned.left.later last r.note);
+      marked = marked_then first d noted c.come.marked (learn_marked law d made noted id (decisions_at level e) l c.is.joined.ready order a behind learned.left.later last r.note);
       knows = learned_knows limits.ceiling limits.bound_row pairs made noted id (decisions_at level e) l r.note.is (analyzed_knows limits.ceiling limits.bound_row pairs d made order a (omega (arith, learned.left.later, last)) c.come.knows);
     }
 

@@ -10,10 +10,9 @@ use Rattle.proof_lines.specs.Texts.{note_text}
 use Rattle.proof_rules.specs.Held.{NoneIsDeleted}
 use Rattle.proof_rules.specs.States.{IsInOrder as AreNumbersInOrder, State}
 use Rattle.derivation.specs.Derived.{Derived, StaysValid}
-use Rattle.derivation.specs.Pieces.{ANote, TakesNote, traced}
+use Rattle.derivation.specs.Pieces.{ANote, CutsStayTraced, TakesNote, traced}
 use Rattle.derivation.specs.Ready.{IsReady}
 use Rattle.derivation.specs.Traces.{since_note}
-use Rattle.derivation.proofs.CutsTraced.{cuts_stay_traced}
 use Rattle.derivation.proofs.Traced.{pieces_traced}
 use Rattle.conflict_cuts.specs.Learned.{Analyzes}
 use Rattle.search_measure.specs.Recorded.{GoesOn}
@@ -62,16 +61,16 @@ marked_lawful a b h text t s since = let one = h text t s since in (one.0, one.1
 none_deleted : (d : Derived) → IsReady d → NoneIsDeleted d.lists d.state.live d.held
 none_deleted d ready = record { model_live = ready.model_live; held_live = ready.held_live }
 
-pub cuts_lawful : (old new : Derived) → IsReady old → AreNumbersInOrder old.state → Analyzes old new → StaysLawful old new
-cuts_lawful old new ready order a text t s since =
-    let u = cuts_stay_traced text old new t s ready.unconcluded order (none_deleted old ready) since a.lines in
+pub cuts_lawful : CutsStayTraced → (old new : Derived) → IsReady old → AreNumbersInOrder old.state → Analyzes old new → StaysLawful old new
+cuts_lawful law old new ready order a text t s since =
+    let u = law text old new t s ready.unconcluded order (none_deleted old ready) since a.lines in
     (u.0, u.1, ap is_some (u.2.since ∙ since), u.2.units)
 
 -- an analysis, and the note of a row that was made in it: no row was made since that note
-pub learn_marked : (old made noted : Derived) (id : RowNo) (decisions : List Lit) (l : Lit) → IsReady old → AreNumbersInOrder old.state → Analyzes old made → length (rows made.lists) < id.0 → old.state.next ≤ id.0 → id.0 < made.state.next →
+pub learn_marked : CutsStayTraced → (old made noted : Derived) (id : RowNo) (decisions : List Lit) (l : Lit) → IsReady old → AreNumbersInOrder old.state → Analyzes old made → length (rows made.lists) < id.0 → old.state.next ≤ id.0 → id.0 < made.state.next →
     TakesNote (Learn id decisions l) made noted → StaysMarked old noted
-learn_marked old made noted id decisions l ready order a behind first last takes text t s since =
-    let u = cuts_stay_traced text old made t s ready.unconcluded order (none_deleted old ready) since a.lines in
+learn_marked law old made noted id decisions l ready order a behind first last takes text t s since =
+    let u = law text old made t s ready.unconcluded order (none_deleted old ready) since a.lines in
     let some : u.0.since ≡ Some old.state.next = u.2.since ∙ since in
     let note : Note = Learn id decisions l in
     let v = traced (ANote note) made noted u.0 in

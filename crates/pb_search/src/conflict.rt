@@ -13,7 +13,7 @@ use crate::learning::{NewRow, learn};
 use crate::limits::Limits;
 use crate::moves::Move;
 use conflict_cuts::{Learned, analyze};
-use derivation::Derivation;
+use derivation::{Derivation, cuts_stay_lawful};
 use hrt_base::NoMemory;
 use pb_propagate::Engine;
 use row_arena::Place;
@@ -39,9 +39,9 @@ pub(crate) fn on_conflict(
     requires falsified { Falsified (set_of engine.old.trail) (row_at conflict.0 engine.old.held) }
     ensures follows { IfOk result (λ move. (first : Derived) (pairs : List PairNo) → IsAtConflict limits.now pairs first engine.old deriv.old → Follows limits.now pairs first deriv.old engine.new deriv.new move) }
 {
-    // For what their contracts say: the live rows are in order, and there are few pairs.
+    // For what their contracts say: the lines of an analysis keep the law of a written proof, and the live rows are in order.
+    cuts_stay_lawful();
     let _next = deriv.next();
-    let _pairs = model.instance().pairs();
     if engine.level() > 0 && deriv.learned() == limits.budget {
         return Ok(Move::Bounded);
     }

@@ -34,7 +34,7 @@ use Rattle.search_measure.proofs.Learned.{counted_bounded, later_learned, lines_
 use Rattle.pb_search.specs.Searching.{AreJoined}
 use Rattle.pb_search.specs.Moves.{CalmAddsRows, CalmDecides, CalmRestarts, ConflictLearns, ConflictSpends, SearchComesToRest, SearchMeetsConflict, SearchStarts, SpentBudgetIsSmall}
 
-joined-held : (budget : ℕ) (e new : EngineState) (d : Derived) → new.vars ≡ e.vars → new.held ≡ e.held → AreJoined budget e d → AreJoined budget new d
+pub joined-held : (budget : ℕ) (e new : EngineState) (d : Derived) → new.vars ≡ e.vars → new.held ≡ e.held → AreJoined budget e d → AreJoined budget new d
 joined-held budget e new d vars held j = record { ready = j.ready; agree = engines_followed e new d j.agree (record { vars = vars; held = held }); within = j.within }
 
 -- ---- start and propagation

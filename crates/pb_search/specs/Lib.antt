@@ -6,3 +6,5 @@ pub mod Opening
 pub mod Returning
 pub mod Loading
 pub mod Improving
+pub mod Loop
+pub mod Deciding

@@ -3,13 +3,17 @@
 #![tactic(auto)]
 
 mod candidate;
+mod conflict;
 mod found;
 mod improving;
 mod laws;
+mod learning;
+mod limits;
 mod loading;
 mod looping;
 mod moves;
 mod opening;
+mod quiet;
 mod returning;
 
 pub use found::Found;

@@ -1,2 +1,4 @@
 mod Points
 mod LoggedMatching
+mod Opposed
+mod ClosingLine

@@ -37,7 +37,7 @@ count-more p q h [] = omega arith
 count-more p q h (v ∷ vs) = omega (arith, count-cons p v vs, count-cons q v vs, worth_more (p v) (q v) (h v), count-more p q h vs)
 
 -- and fewer still where one that doesn't pass is there
-count-fewer : (p q : ℕ → Bool) → ((v : ℕ) → p v ≡ true → q v ≡ true) → (x : ℕ) → p x ≡ false → q x ≡ true → (vs : List ℕ) → is_in x vs ≡ true → count_by p vs < count_by q vs
+pub count-fewer : (p q : ℕ → Bool) → ((v : ℕ) → p v ≡ true → q v ≡ true) → (x : ℕ) → p x ≡ false → q x ≡ true → (vs : List ℕ) → is_in x vs ≡ true → count_by p vs < count_by q vs
 count-fewer p q h x fails passes [] e = absurd (cc)
 count-fewer p q h x fails passes (v ∷ vs) e = by (v == x) refl e (count-fewer p q h x fails passes vs)
   where

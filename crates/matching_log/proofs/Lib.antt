@@ -1,4 +1,5 @@
 mod Points
-mod LoggedMatching
+pub mod LoggedMatching
 mod Opposed
 mod ClosingLine
+pub mod AfterLog

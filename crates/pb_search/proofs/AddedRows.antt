@@ -1,6 +1,6 @@
 -- Rows that were added behind those of an engine, seen by their places.
-use Rattle.std.proofs.Common.{◌≡◌, ◌<◌, ◌==◌, ◌||◌, ℕ, zero, suc, Bool, true, false, map, List, [], ◌∷◌, ◌++◌, length, get_or, refl, sym, ap, ◌∙◌, subst, inl, inr, arith}
-use Rattle.std.specs.Prelude.{Contains, IsTrue}
+use Rattle.std.proofs.Common.{◌≡◌, ◌==◌, ℕ, zero, suc, true, map, List, [], ◌∷◌, ◌++◌, get_or, refl, sym, ap, ◌∙◌, subst, inl, inr, arith}
+use Rattle.std.specs.Prelude.{Contains}
 use Rattle.std.specs.List.{All}
 use Rattle.std.proofs.lemmas.Bool.{cases_eq, eq-eqb, ne_eqb}
 use Rattle.std.proofs.lemmas.List.Elements.{All-contains, All-cons, All-head, All-nil, All-tail, Contains-get_or}
@@ -14,9 +14,8 @@ use Rattle.lazy_stability.specs.Loads.{place_numbers}
 use Rattle.pb_propagate.specs.Entries.{Entry, set_of, up_to}
 use Rattle.pb_propagate.specs.Engines.{EngineState, set_at}
 use Rattle.pb_propagate.specs.Open.{IsOpen}
-use Rattle.search_measure.specs.Trails.{SomeOpen}
 use Rattle.pb_search.specs.Moves.{AddsRows}
-use Rattle.pb_search.specs.Returning.{GoesBack, IsBroken, IsOpenAt}
+use Rattle.pb_search.specs.Returning.{GoesBack, IsBroken}
 
 -- a row that stands at its place
 pub record Stands (held : List Held) (h : Held) : Type 0 where

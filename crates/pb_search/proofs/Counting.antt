@@ -1,10 +1,9 @@
 -- What the row of the ceiling and the row that asks for a larger matching say of a point.
-use Rattle.std.proofs.Common.{◌≡◌, ◌<◌, ◌≤◌, ℕ, Bool, true, false, nat_le, nat_lt, List, length, ℤ, pos, neg_ℤ, int_le, sym, ap, ◌∙◌, arith}
+use Rattle.std.proofs.Common.{◌≡◌, ℕ, nat_le, nat_lt, length, pos, neg_ℤ, int_le, ap, ◌∙◌, arith}
 use Rattle.std.specs.Prelude.{◌-ℤ◌}
-use Rattle.std.proofs.lemmas.Bool.{leb-true, ltb-true}
 use Rattle.std.proofs.lemmas.Bool.Decides.{nat_tests}
 use Rattle.std.proofs.lemmas.Int.{ints}
-use Rattle.pb_rows.specs.Points.{Point, value_at}
+use Rattle.pb_rows.specs.Points.{Point}
 use Rattle.pb_rows.specs.Rows.{holds}
 use Rattle.pb_rows.proofs.ByNets.{holds-normal_form}
 use Rattle.rank_tables.specs.Instance.{Lists}

@@ -1,19 +1,19 @@
 -- An engine goes back to the lowest level at which one of some rows is open.
-use Rattle.std.proofs.Common.{◌≡◌, ◌<◌, ◌≤◌, ◌+◌, ℕ, suc, min, take, List, [], ◌∷◌, ◌++◌, length, get_or, sym, ap, ◌∙◌, subst, inl, inr, arith}
+use Rattle.std.proofs.Common.{◌≡◌, ◌<◌, ◌+◌, ℕ, suc, min, take, List, [], ◌∷◌, ◌++◌, length, get_or, sym, ap, ◌∙◌, subst, inl, inr, arith}
 use Rattle.std.proofs.Math.Seq.{take-suc}
-use Rattle.std.specs.Prelude.{◌⊎◌, Contains, Option, Some, None, IsTrue}
+use Rattle.std.specs.Prelude.{◌⊎◌, Option, Some, None}
 use Rattle.std.specs.Option.{unwrap_or}
 use Rattle.std.specs.List.{All}
 use Rattle.std.proofs.lemmas.Bool.{cases_lt}
 use Rattle.std.proofs.lemmas.List.Elements.{All-nil, All-push, Contains-append_left, Contains-get_or, Contains-push}
-use Rattle.pb_rows.specs.Closure.{Falsified, Keeps}
+use Rattle.pb_rows.specs.Closure.{Keeps}
 use Rattle.row_arena.specs.Held.{row_at}
 use Rattle.row_arena.specs.declared.arena.Place.{Place}
 use Rattle.pb_propagate.specs.Entries.{Entry, level_of, set_of, up_to}
 use Rattle.pb_propagate.specs.Engines.{EngineState, IsLowestOpen, set_at}
 use Rattle.pb_propagate.specs.Open.{IsOpen}
 use Rattle.pb_propagate.proofs.Levels.{up_to-all}
-use Rattle.pb_search.specs.Returning.{AreKeptUnder, GoesBack, IsBroken, IsLowest, IsOpenAt}
+use Rattle.pb_search.specs.Returning.{GoesBack, IsBroken, IsLowest, IsOpenAt}
 
 -- at first nothing was looked at
 pub lowest_none : (e : EngineState) (level : ℕ) → level ≡ level_of e.trail → IsLowest [] e level

@@ -1,6 +1,6 @@
 -- The rows with which a search starts can be held: their numbers are held, and they are short.
-use Rattle.std.proofs.Common.{◌≡◌, ◌<◌, ◌≤◌, ◌+◌, ◌-◌, ◌||◌, ◌==◌, ℕ, zero, suc, Bool, true, false, nat_le, List, [], ◌∷◌, ◌++◌, length, get_or, refl, sym, ap, ◌∙◌, subst, arith}
-use Rattle.std.specs.Prelude.{Option, Some, None, slice_get, slice_index_or, IfSome, IsTrue, ℤ, ◌-ℤ◌, pos}
+use Rattle.std.proofs.Common.{◌≡◌, ◌≤◌, ◌-◌, ◌==◌, ℕ, zero, suc, true, false, nat_le, List, [], ◌∷◌, ◌++◌, length, get_or, refl, sym, ap, ◌∙◌, subst, arith}
+use Rattle.std.specs.Prelude.{Option, Some, None, slice_get, slice_index_or, IfSome, ℤ, ◌-ℤ◌, pos}
 use Rattle.std.proofs.lemmas.Bool.{and_from, eq-eqb, le-leb}
 use Rattle.std.proofs.lemmas.Option.{slice_get-get_or}
 use Rattle.hrt_base.specs.declared.numbered.PairNo.{PairNo}
@@ -15,18 +15,18 @@ use Rattle.rank_tables.specs.Tables.{IsPairNo, numbers_of}
 use Rattle.rank_tables.proofs.Membership.{Matching, in_order_length, stable_parts}
 use Rattle.rank_tables.proofs.Numbers.{is_in-numbers_to}
 use Rattle.std.proofs.lemmas.List.{length-map}
-use Rattle.stability_model.specs.Model.{AreShortRows, IsShortRow, objective, pair_row_no, pairs_of_point, point_of_pairs, rows}
+use Rattle.stability_model.specs.Model.{AreShortRows, IsShortRow, objective, pair_row_no, point_of_pairs, rows}
 use Rattle.stability_model.proofs.ModelExact.{ObjectiveExact}
 use Rattle.proof_rules.specs.Held.{is_held}
 use Rattle.proof_rules.specs.States.{at_most_row}
 use Rattle.proof_rules.proofs.Held.{is_in-append}
 use Rattle.agreement.proofs.Numbers.{or_first, or_second}
-use Rattle.derivation.specs.Deletions.{AreUnitRows, Deletions, unit_row, unit_row_no}
+use Rattle.derivation.specs.Deletions.{Deletions, unit_row, unit_row_no}
 use Rattle.derivation.specs.Derived.{Derived}
 use Rattle.derivation.specs.Ready.{IsReady}
 use Rattle.derivation.proofs.ShortRows.{made_rows_short}
 use Rattle.matching_log.specs.Logged.{ceiling_row, larger_row, value_of}
-use Rattle.pb_search.specs.Knowing.{CanSearch, HoldsOpening, opening_numbers, unit_numbers}
+use Rattle.pb_search.specs.Knowing.{HoldsOpening, unit_numbers}
 use Rattle.pb_search.specs.Opening.{CanHold}
 
 same_row : (a b : PlainRow) → Some a ≡ Some b → a ≡ b

@@ -1,24 +1,21 @@
 -- The rows of a derivation are added to an engine, one after another.
-use Rattle.std.proofs.Common.{◌≡◌, ◌<◌, ◌≤◌, ◌+◌, ◌-◌, ◌||◌, ℕ, zero, suc, Bool, true, false, nat_le, List, [], ◌∷◌, ◌++◌, length, take, refl, sym, ap, ◌∙◌, subst, arith, append-nil, append_assoc}
-use Rattle.std.specs.Prelude.{Option, Some, None, slice_get, slice_index_or, IsTrue}
-use Rattle.std.specs.List.{All}
-use Rattle.std.proofs.lemmas.Bool.{and_from, le-leb}
+use Rattle.std.proofs.Common.{◌≡◌, ◌<◌, ◌≤◌, ◌+◌, ◌-◌, ℕ, zero, suc, List, [], ◌∷◌, ◌++◌, length, take, refl, sym, ap, ◌∙◌, subst, arith, append-nil, append_assoc}
+use Rattle.std.specs.Prelude.{Option, Some, None, slice_index_or}
 use Rattle.std.proofs.Math.Seq.{take-length}
 use Rattle.std.proofs.lemmas.List.{map-append}
 use Rattle.std.proofs.lemmas.List.Elements.{All-nil, All-push}
 use Rattle.hrt_base.specs.declared.numbered.RowNo.{RowNo}
 use Rattle.pb_rows.specs.Terms.{PlainRow}
 use Rattle.pb_rows.specs.Formula.{row_of}
-use Rattle.rank_tables.specs.Instance.{Lists, pair_count}
+use Rattle.rank_tables.specs.Instance.{pair_count}
 use Rattle.rank_tables.specs.Numbers.{is_distinct, is_in, numbers_to}
 use Rattle.stability_model.specs.Model.{pair_row_no}
-use Rattle.proof_rules.specs.Held.{is_held}
 use Rattle.derivation.specs.Deletions.{Deletions, unit_row_no}
 use Rattle.derivation.specs.Derived.{Derived}
 use Rattle.row_arena.specs.Held.{Held}
 use Rattle.pb_propagate.specs.Engines.{EngineState}
-use Rattle.agreement.specs.Agreement.{Agree, IsHeldIn, tags}
-use Rattle.pb_search.specs.Knowing.{CanSearch, HoldsOpening, opening_numbers, unit_numbers}
+use Rattle.agreement.specs.Agreement.{Agree, IsHeldIn}
+use Rattle.pb_search.specs.Knowing.{HoldsOpening, opening_numbers, unit_numbers}
 use Rattle.pb_search.specs.Opening.{CanHold, HasOneMore, HasRows}
 
 -- ---- one row

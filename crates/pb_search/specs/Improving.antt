@@ -4,7 +4,6 @@ use Rattle.hrt_base.specs.declared.numbered.PairNo.{PairNo}
 use Rattle.hrt_base.specs.declared.numbered.RowNo.{RowNo}
 use Rattle.pb_rows.specs.Terms.{PlainRow}
 use Rattle.pb_rows.specs.Formula.{row_of}
-use Rattle.row_arena.specs.Held.{Held}
 use Rattle.derivation.specs.Derived.{Derived, StaysValid}
 use Rattle.pb_propagate.specs.Engines.{EngineState}
 use Rattle.matching_log.specs.Logged.{Closes, Logs}

@@ -6,13 +6,18 @@ ghost use Rattle.pb_search.specs.Knowing.{Knows};
 ghost use Rattle.pb_search.specs.Searching.{AreJoined};
 ghost use Rattle.pb_search.specs.Tried.{TriesCandidate};
 
+use crate::improving::improve;
+use crate::loading::load_broken;
 use crate::moves::Move;
 use derivation::Derivation;
 use hrt_base::{NoMemory, PairNo, RowNo};
-use lazy_stability::Posts;
+use lazy_stability::{Posts, candidate_pairs};
 use pb_propagate::Engine;
 use stability_model::Model;
 use std::alloc::Global;
+
+/// The most pairs whose rows are loaded at once.
+const MOST_LOADED: usize = 64;
 
 /// Tries the candidate of a full engine in which nothing is due. Where pairs block it, the rows of the least ones are loaded, at most 64. Else
 /// it is the largest matching so far: it is logged, and its row added; and where it is as large as the ceiling, the bound is closed. After
@@ -37,5 +42,18 @@ pub(crate) fn try_candidate(
     ensures tries { IfOk result (TriesCandidate budget ceiling bound_row found.old.items found.new.items engine.old engine.new deriv.old deriv.new) }
     ensures sizes { posts.new ≡ posts.old }
 {
-    Err(NoMemory)
+    // For what their contracts say: the engine and the live rows are in order, and pairs are few.
+    let _level = engine.level();
+    let _next = deriv.next();
+    let _pairs = model.instance().pairs();
+    let mut blocking = [PairNo(0); MOST_LOADED];
+    let count = posts.broken(model.instance(), engine, &mut blocking);
+    if count > 0 {
+        load_broken(alloc, model, engine, deriv, &blocking[..count])?;
+        return Ok(Move::On);
+    }
+    let pairs = candidate_pairs(alloc, model.instance(), engine)?;
+    let step = improve(alloc, model, ceiling, bound_row, engine, deriv, &pairs)?;
+    *found = pairs;
+    Ok(step)
 }

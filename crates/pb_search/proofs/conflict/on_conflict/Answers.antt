@@ -1,4 +1,4 @@
-use Rattle.std.proofs.Common.{◌≡◌, ◌+◌, ◌<◌, ◌≤◌, ap, sym, subst, ◌∙◌, arith}
+use Rattle.std.proofs.Common.{ap, sym, subst, ◌∙◌, arith}
 use Rattle.std.proofs.lemmas.Bool.{false_from_ne_true}
 use Rattle.proof_rules.specs.Held.{Held, is_held}
 use Rattle.row_arena.specs.Held.{row_at}
@@ -25,8 +25,8 @@ learn-requires-clause-free c =
     let learned = subst (Learns c.args.engine.now conflict d c.analyze.new.deriv) c.in-Clause.is c.in_ok-analyze.ensures.learned in
     ap (λ (h : Held). is_held h c.in-Clause.id.0) c.analyze.ensures.lines.held
     ∙ false_from_ne_true (is_held d.held c.in-Clause.id.0) (λ h.
-        let below = below_next c.in-Clause.id.0 d.state.next d.state.live c.next-next.ensures.in_order (c.requires.joined.ready.held_live c.in-Clause.id.0 h) in
-        omega (arith, below, learned.left.later))
+    let below = below_next c.in-Clause.id.0 d.state.next d.state.live c.next-next.ensures.in_order (c.requires.joined.ready.held_live c.in-Clause.id.0 h) in
+    omega (arith, below, learned.left.later))
 
 pub returns-in-Root : goal.returns-in-Root
 returns-in-Root c =

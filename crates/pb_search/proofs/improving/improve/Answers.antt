@@ -1,4 +1,4 @@
-use Rattle.std.proofs.Common.{arith, ap, ◌∙◌, ◌≤◌, ◌≡◌, sym, subst, length}
+use Rattle.std.proofs.Common.{arith, ap, ◌∙◌, ◌≤◌, ◌≡◌, subst, length}
 use Rattle.derivation.specs.Derived.{Derived}
 use Rattle.rank_tables.specs.Instance.{Lists, pair_count}
 use Rattle.pb_search.proofs.Improved.{ceiling_stays, logged_broken, logged_short}

@@ -1,4 +1,4 @@
-use Rattle.std.proofs.Common.{◌≡◌, List, ◌++◌, sym, ap, subst, ◌∙◌}
+use Rattle.std.proofs.Common.{List, ◌++◌, sym, ap, subst, ◌∙◌}
 use Rattle.hrt_base.specs.declared.numbered.PairNo.{PairNo}
 use Rattle.pb_search.specs.declared.limits.Limits.{Limits}
 use Rattle.pb_search.specs.Loop.{IsAtStep}

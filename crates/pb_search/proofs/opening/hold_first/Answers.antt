@@ -1,4 +1,4 @@
-use Rattle.std.proofs.Common.{arith, ◌≡◌, ◌≤◌, ap, subst, sym, ◌∙◌, ℕ}
+use Rattle.std.proofs.Common.{arith, ◌≤◌, ap, subst, sym, ℕ}
 use Rattle.rank_tables.specs.Instance.{Lists, pair_count}
 use Rattle.stability_model.specs.Model.{AreShortRows, rows, pair_row_no}
 use Rattle.derivation.proofs.Readiness.{rows_count}

@@ -1,5 +1,5 @@
 use Rattle.std.proofs.Common.{◌∙◌, sym}
-use Rattle.pb_search.proofs.Openings.{none_more, some_more}
+use Rattle.pb_search.proofs.Openings.{some_more}
 use Rattle.pb_search.proofs.opening.hold_unit.Goals as goal
 
 pub hold-requires-clause-can : goal.hold-requires-clause-can

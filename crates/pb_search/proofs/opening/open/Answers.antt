@@ -1,6 +1,5 @@
-use Rattle.std.proofs.Common.{arith, ap, ◌∙◌, ◌≤◌, subst, sym, append_assoc, ◌++◌, ◌∷◌, [], ◌≡◌, List, ℕ}
+use Rattle.std.proofs.Common.{arith, ◌∙◌, ◌≤◌, subst}
 use Rattle.rank_tables.specs.Instance.{Lists, pair_count}
-use Rattle.pb_search.specs.Opening.{HasRows}
 use Rattle.pb_search.proofs.Openings.{all_held, opened}
 use Rattle.pb_search.proofs.OpeningRows.{bound_held, ceiling_short, first_held, improve_held, known_can, larger_short, unit_can}
 use Rattle.pb_search.proofs.opening.open.Goals as goal

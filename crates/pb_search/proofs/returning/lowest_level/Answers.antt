@@ -1,6 +1,6 @@
 use Rattle.std.proofs.Common.{ap, ◌∙◌}
 use Rattle.std.specs.Prelude.{min}
-use Rattle.pb_search.proofs.GoingBack.{lowest_none, lowest_step}
+use Rattle.pb_search.proofs.GoingBack.{lowest_step}
 use Rattle.pb_search.proofs.returning.lowest_level.Goals as goal
 
 pub loop-place-preserved : goal.loop-place-preserved

@@ -1,5 +1,5 @@
 -- The variable that is decided next, and a trail without free variables.
-use Rattle.std.proofs.Common.{◌≡◌, ◌+◌, ◌<◌, ◌≤◌, ℕ, Bool, true, false, if◌then◌else◌, List, [], ◌∷◌, length, count_by, refl, sym, ap, ◌∙◌, subst, inl, inr, arith}
+use Rattle.std.proofs.Common.{◌≡◌, ◌+◌, ◌≤◌, ℕ, Bool, true, false, if◌then◌else◌, List, [], ◌∷◌, length, count_by, refl, sym, subst, arith}
 use Rattle.std.specs.List.{AllByRecursion}
 use Rattle.std.proofs.lemmas.List.Elements.{All-weaker, recursion_from_All}
 use Rattle.std.proofs.lemmas.List.{length-map}
@@ -49,7 +49,7 @@ full_trail e o none =
     let assigned = engine-assigned e o in
     let each : AllByRecursion (λ (v : ℕ). 1 ≤ worth (set_of e.trail (record { var = v; neg = false })) + worth (set_of e.trail (record { var = v; neg = true }))) (numbers_to e.vars) =
     recursion_from_All (λ (v : ℕ). 1 ≤ worth (set_of e.trail (record { var = v; neg = false })) + worth (set_of e.trail (record { var = v; neg = true }))) (numbers_to e.vars)
-    (All-weaker (λ (v : ℕ). (1 ≤ v) × (v ≤ e.vars)) (λ (v : ℕ). 1 ≤ worth (set_of e.trail (record { var = v; neg = false })) + worth (set_of e.trail (record { var = v; neg = true }))) 
+    (All-weaker (λ (v : ℕ). (1 ≤ v) × (v ≤ e.vars)) (λ (v : ℕ). 1 ≤ worth (set_of e.trail (record { var = v; neg = false })) + worth (set_of e.trail (record { var = v; neg = true })))
     (λ v h. worth_either (set_of e.trail (record { var = v; neg = false })) (set_of e.trail (record { var = v; neg = true })) (none v h.0 h.1)) (numbers_to e.vars) (numbers_to-within e.vars e.vars (omega arith))) in
     omega (
       arith,

@@ -1,5 +1,5 @@
 -- The first decisions of a trail, found in one pass over its literals.
-use Rattle.std.proofs.Common.{◌≡◌, ◌+◌, ◌-◌, ◌<◌, ◌≤◌, ℕ, suc, Bool, true, false, not, if◌then◌else◌, List, [], ◌∷◌, ◌++◌, length, take, append-nil, add-one, refl, sym, ap, ◌∙◌, subst, inl, inr, arith}
+use Rattle.std.proofs.Common.{◌≡◌, ◌+◌, ◌-◌, ◌<◌, ◌≤◌, ℕ, Bool, true, false, not, if◌then◌else◌, List, [], ◌∷◌, ◌++◌, length, take, append-nil, add-one, refl, sym, ap, ◌∙◌, inl, inr, arith}
 use Rattle.std.specs.Prelude.{Option, Some, None, is_none, is_some, slice_index_or}
 use Rattle.std.proofs.lemmas.Bool.{cases_Bool}
 use Rattle.std.proofs.lemmas.List.{take_all}
@@ -9,7 +9,7 @@ use Rattle.row_arena.specs.Held.{Held}
 use Rattle.conflict_rows.specs.Trail.{Placed, top_level}
 use Rattle.engine_trails.specs.History.{placed, placed_all}
 use Rattle.pb_propagate.specs.Entries.{Entry, decisions_of, is_decision, level_of, lits_of, reason_in, up_to}
-use Rattle.pb_propagate.specs.Engines.{EngineState, decisions_at}
+use Rattle.pb_propagate.specs.Engines.{EngineState}
 use Rattle.pb_propagate.specs.Moments.{IsInOrder}
 use Rattle.pb_propagate.specs.Tables.{number_of}
 use Rattle.pb_propagate.proofs.Levels.{level-append, up_to-above, up_to-all}

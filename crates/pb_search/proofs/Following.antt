@@ -1,6 +1,6 @@
 -- What follows a conflict, and how a search ends.
 use Rattle.std.proofs.Common.{◌≡◌, ◌+◌, ◌<◌, ◌≤◌, ℕ, List, [], ◌∷◌, ◌++◌, length, refl, sym, ap, ◌∙◌, subst, arith, inl, inr}
-use Rattle.std.specs.Prelude.{IsTrue, Some}
+use Rattle.std.specs.Prelude.{Some}
 use Rattle.std.proofs.lemmas.Bool.{cases_lt}
 use Rattle.hrt_base.specs.declared.literal.Lit.{Lit}
 use Rattle.hrt_base.specs.declared.numbered.PairNo.{PairNo}
@@ -30,7 +30,7 @@ use Rattle.search_measure.proofs.Recorded.{counted, learn_nothing}
 use Rattle.matching_log.specs.Logged.{ceiling_row}
 use Rattle.pb_search.specs.declared.limits.Limits.{Limits}
 use Rattle.pb_search.specs.declared.moves.Move.TheVariants.{On, Best, Bounded}
-use Rattle.pb_search.specs.Loop.{EndsIn, Follows, HasCome, IsAtConflict}
+use Rattle.pb_search.specs.Loop.{Follows, HasCome, IsAtConflict}
 use Rattle.pb_search.specs.Moves.{Analyzed, LearnsRow}
 use Rattle.pb_search.specs.Tried.{LearnsLater, Searches, StaysLawful}
 use Rattle.pb_search.proofs.Known.{analyzed_knows, ceiling_live, found_kept, learned_knows}

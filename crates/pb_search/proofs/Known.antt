@@ -1,5 +1,5 @@
 -- What a search knows stays so while an analysis is made and its row is noted.
-use Rattle.std.proofs.Common.{◌≡◌, ◌<◌, ◌≤◌, ◌||◌, ℕ, true, List, [], ◌∷◌, length, refl, sym, ap, ◌∙◌, subst, arith}
+use Rattle.std.proofs.Common.{◌≡◌, ◌<◌, ◌≤◌, ℕ, List, [], ◌∷◌, length, refl, sym, ap, ◌∙◌, subst, arith}
 use Rattle.std.specs.Prelude.{IsTrue, Some}
 use Rattle.std.specs.List.{All}
 use Rattle.std.proofs.lemmas.Bool.{or_left}
@@ -13,7 +13,6 @@ use Rattle.rank_tables.specs.Numbers.{is_in}
 use Rattle.rank_tables.specs.Stability.{is_weakly_stable}
 use Rattle.rank_tables.specs.Tables.{IsPairNo, numbers_of}
 use Rattle.stability_model.specs.Model.{pair_row_no, rows}
-use Rattle.proof_lines.specs.declared.note.Note.{Note}
 use Rattle.proof_lines.specs.declared.note.Note.TheVariants.{Learn}
 use Rattle.proof_rules.specs.Held.{Held, is_held}
 use Rattle.proof_rules.specs.States.{IsInOrder as AreNumbersInOrder}

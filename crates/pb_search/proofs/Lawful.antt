@@ -1,6 +1,6 @@
 -- Lines that are added one after another, and the law that they keep.
-use Rattle.std.proofs.Common.{◌≡◌, ◌<◌, ◌≤◌, ℕ, List, [], ◌∷◌, ◌++◌, append-nil, append_assoc, length, refl, sym, ap, ◌∙◌, subst}
-use Rattle.std.specs.Prelude.{Option, Some, is_some}
+use Rattle.std.proofs.Common.{◌≡◌, ◌<◌, ◌≤◌, ℕ, List, [], ◌∷◌, ◌++◌, append-nil, append_assoc, length, refl, sym, ap, ◌∙◌}
+use Rattle.std.specs.Prelude.{Some, is_some}
 use Rattle.hrt_base.specs.declared.literal.Lit.{Lit}
 use Rattle.hrt_base.specs.declared.numbered.RowNo.{RowNo}
 use Rattle.stability_model.specs.Model.{rows}
@@ -8,7 +8,7 @@ use Rattle.proof_lines.specs.declared.note.Note.{Note}
 use Rattle.proof_lines.specs.declared.note.Note.TheVariants.{Learn}
 use Rattle.proof_lines.specs.Texts.{note_text}
 use Rattle.proof_rules.specs.Held.{NoneIsDeleted}
-use Rattle.proof_rules.specs.States.{IsInOrder as AreNumbersInOrder, State}
+use Rattle.proof_rules.specs.States.{IsInOrder as AreNumbersInOrder}
 use Rattle.derivation.specs.Derived.{Derived, StaysValid}
 use Rattle.derivation.specs.Pieces.{ANote, CutsStayTraced, TakesNote, traced}
 use Rattle.derivation.specs.Ready.{IsReady}

@@ -1,5 +1,5 @@
 -- The loop of a search: each step leads on and comes nearer to its end.
-use Rattle.std.proofs.Common.{◌≡◌, ℕ, ◌+◌, ◌-◌, ◌*◌, ◌<◌, ◌≤◌, not, List, [], ◌∷◌, ◌++◌, length, count_by, refl, sym, ap, ◌∙◌, subst, arith}
+use Rattle.std.proofs.Common.{◌≡◌, ℕ, ◌+◌, ◌-◌, ◌*◌, ◌<◌, ◌≤◌, not, List, [], ◌∷◌, length, refl, sym, ap, subst, arith}
 use Rattle.std.specs.Prelude.{None, Result, Ok, Err, IfOk}
 use Rattle.std.proofs.Math.Nat.{mul-le-mul_right}
 use Rattle.std.proofs.lemmas.List.{length-append}
@@ -19,7 +19,7 @@ use Rattle.pb_search.specs.declared.limits.Limits.{Limits}
 use Rattle.pb_search.specs.declared.moves.Move.{Move}
 use Rattle.pb_search.specs.declared.moves.Move.TheVariants.{On, Best, Bounded}
 use Rattle.pb_search.specs.Knowing.{work_left}
-use Rattle.pb_search.specs.Loop.{CountsOne, EndsIn, Follows, HasCome, IsAtConflict, IsAtRest, IsAtStep, LeadsTo, distance_left}
+use Rattle.pb_search.specs.Loop.{EndsIn, Follows, IsAtConflict, IsAtRest, IsAtStep, LeadsTo, distance_left}
 use Rattle.pb_search.specs.Moves.{Decides}
 use Rattle.pb_search.specs.Searching.{AreJoined}
 use Rattle.pb_search.specs.Tried.{TriesCandidate}
@@ -91,8 +91,7 @@ quiet_leads limits before after e calm new d made Bounded q h first s = h first 
 pub conflict_leads : (limits : Limits) (pairs : List PairNo) (place : ℕ) (e met new : EngineState) (d made : Derived) (move : Move) → ReachesConflict e met place → ((first : Derived) (ps : List PairNo) → IsAtConflict limits ps first met d → Follows limits ps first d new made move) →
     (first : Derived) → IsAtStep limits pairs first e d → LeadsTo limits pairs pairs first e new d made move
 conflict_leads limits pairs place e met new d made On q h first s =
-    let on = h first pairs (record { since = s.since; is = meets_conflict first limits.budget 0 s.since place e met d s.is q; come = s.come }) in
-    (
+    let on = h first pairs (record { since = s.since; is = meets_conflict first limits.budget 0 s.since place e met d s.is q; come = s.come }) in (
       on.0,
       subst (λ (n : ℕ). ((limits.budget - made.held.learn_notes) * (n + limits.ceiling + 1) + work_left limits.ceiling pairs made) * (n + 1) + (n - length new.trail) < distance_left limits pairs e d) (sym (ap pair_count on.1.lists))
           (falls_first (limits.budget - d.held.learn_notes) (limits.budget - made.held.learn_notes) (pair_count d.lists + limits.ceiling + 1) (work_left limits.ceiling pairs d) (work_left limits.ceiling pairs made) (pair_count d.lists)

@@ -1,11 +1,8 @@
 -- What a search asks for is enough to start it, and what it ends in is what it is to find.
-use Rattle.std.proofs.Common.{◌≡◌, ◌<◌, ◌≤◌, ◌||◌, ◌==◌, ℕ, true, List, [], ◌∷◌, ◌++◌, length, refl, sym, ap, ◌∙◌, subst, arith}
-use Rattle.std.specs.Prelude.{Some}
+use Rattle.std.proofs.Common.{◌≡◌, ◌==◌, ℕ, true, List, [], ◌∷◌, ◌++◌, refl, ap, ◌∙◌, arith}
 use Rattle.std.proofs.lemmas.Bool.{eq-eqb, or_left, or_right}
 use Rattle.hrt_base.specs.declared.numbered.PairNo.{PairNo}
 use Rattle.hrt_base.specs.declared.numbered.RowNo.{RowNo}
-use Rattle.pb_rows.specs.Terms.{PlainRow}
-use Rattle.pb_rows.specs.Formula.{row_of}
 use Rattle.rank_tables.specs.Numbers.{is_in, numbers_to}
 use Rattle.stability_model.specs.Model.{pair_row_no}
 use Rattle.proof_rules.specs.Held.{is_held}
@@ -16,7 +13,7 @@ use Rattle.pb_propagate.specs.Entries.{level_of}
 use Rattle.pb_propagate.specs.Engines.{AreKeptBelow, EngineState}
 use Rattle.agreement.specs.Agreement.{Agree}
 use Rattle.pb_search.specs.declared.limits.Limits.{Limits}
-use Rattle.pb_search.specs.Knowing.{CanSearch, HoldsOpening, HoldsRow, opening_numbers, unit_numbers}
+use Rattle.pb_search.specs.Knowing.{CanSearch, HoldsOpening, unit_numbers}
 use Rattle.pb_search.specs.Loop.{IsAtStep}
 use Rattle.pb_search.proofs.Lawful.{goes_none, marked_none}
 use Rattle.pb_search.proofs.Steps.{starts}

@@ -1,5 +1,5 @@
 -- What a search knows of matchings, and what it starts from.
-use Rattle.std.specs.Prelude.{◌≡◌, ◌<◌, ◌≤◌, ◌+◌, ◌-◌, ℕ, not, IsTrue, List, [], ◌∷◌, ◌++◌, length, count_by, Option, Some, None}
+use Rattle.std.specs.Prelude.{◌≡◌, ◌<◌, ◌≤◌, ◌+◌, ◌-◌, ℕ, not, IsTrue, List, [], ◌∷◌, ◌++◌, length, count_by, Some, None}
 use Rattle.std.specs.List.{All}
 use Rattle.std.specs.List.Sorted.{IsStrictlyIncreasing}
 use Rattle.hrt_base.specs.declared.numbered.PairNo.{PairNo}

@@ -1,6 +1,5 @@
-use Rattle.std.proofs.Common.{◌≡◌, ℕ, ◌<◌, sym, ap, ◌∙◌, subst}
+use Rattle.std.proofs.Common.{sym, ap, ◌∙◌, subst}
 use Rattle.lazy_stability.specs.Table.{sizes_of}
-use Rattle.pb_search.specs.declared.moves.Move.{Move}
 use Rattle.pb_search.specs.Loop.{LeadsTo}
 use Rattle.pb_search.proofs.Leading.{ends_in}
 use Rattle.pb_search.proofs.looping.search_on.Goals as goal

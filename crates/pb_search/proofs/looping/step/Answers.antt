@@ -1,9 +1,9 @@
-use Rattle.std.proofs.Common.{◌≡◌, ℕ, List}
+use Rattle.std.proofs.Common.{List}
 use Rattle.hrt_base.specs.declared.numbered.PairNo.{PairNo}
 use Rattle.derivation.specs.Derived.{Derived}
 use Rattle.pb_search.specs.declared.moves.Move.{Move}
 use Rattle.pb_search.specs.Loop.{Follows, IsAtConflict, IsAtRest, IsAtStep, LeadsTo}
-use Rattle.pb_search.proofs.Leading.{conflict_leads, if_ok, joined_conflict, joined_quiet, quiet_leads}
+use Rattle.pb_search.proofs.Leading.{conflict_leads, if_ok, quiet_leads}
 use Rattle.pb_search.proofs.looping.step.Goals as goal
 
 pub returns-in-Conflict-clause-leads : goal.returns-in-Conflict-clause-leads

@@ -1,10 +1,9 @@
-use Rattle.std.proofs.Common.{◌≡◌, ◌<◌, ◌+◌, ◌≤◌, ap, arith}
+use Rattle.std.proofs.Common.{ap, arith}
 use Rattle.derivation.specs.Derived.{Derived}
 use Rattle.pb_propagate.specs.Engines.{EngineState}
 use Rattle.pb_search.specs.declared.moves.Move.{Move}
 use Rattle.pb_search.specs.Loop.{IsAtRest, LeadsTo}
 use Rattle.pb_search.specs.Tried.{TriesCandidate}
-use Rattle.pb_search.proofs.Deciding.{free_unfalse, free_untrue}
 use Rattle.pb_search.proofs.Leading.{decided_leads, if_ok, tried_leads}
 use Rattle.pb_search.proofs.quiet.on_quiet.Goals as goal
 

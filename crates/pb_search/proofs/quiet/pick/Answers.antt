@@ -1,4 +1,4 @@
-use Rattle.std.proofs.Common.{◌≡◌, ◌≤◌, ℕ, arith}
+use Rattle.std.proofs.Common.{arith}
 use Rattle.pb_search.proofs.Deciding.{full_trail}
 use Rattle.pb_search.proofs.quiet.pick.Goals as goal
 

@@ -3,6 +3,7 @@ use Rattle.std.specs.Prelude.{◌≡◌, ◌<◌, ℕ, ◌+◌, ◌-◌, ◌*◌
 use Rattle.hrt_base.specs.declared.numbered.PairNo.{PairNo}
 use Rattle.rank_tables.specs.Instance.{pair_count}
 use Rattle.derivation.specs.Derived.{Derived}
+use Rattle.pb_propagate.specs.Entries.{level_of}
 use Rattle.pb_propagate.specs.Engines.{EngineState}
 use Rattle.search_measure.specs.Recorded.{GoesOn}
 use Rattle.pb_search.specs.declared.limits.Limits.{Limits}
@@ -60,6 +61,10 @@ pub record CountsOne (old new : Derived) : Type 0 where
 abbrev pub Follows : Limits → List PairNo → Derived → Derived → EngineState → Derived → Move → Type 0
 Follows limits pairs first d new made On = IsAtStep limits pairs first new made × CountsOne d made
 Follows limits pairs first d new made move = EndsIn limits pairs first made move
+
+-- where the budget is spent a conflict above level 0 ends the search, and no line is added before
+abbrev pub StopsWhereSpent : Limits → EngineState → Derived → Derived → Move → Type 0
+StopsWhereSpent limits e d made move = 0 < level_of e.trail → d.held.learn_notes ≡ limits.budget → (move ≡ Bounded) × (made ≡ d)
 
 -- how far a search is from its end: rows that the budget leaves, then rows to load and pairs to gain, then free variables
 abbrev pub distance_left : Limits → List PairNo → EngineState → Derived → ℕ

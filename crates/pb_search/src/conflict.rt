@@ -6,7 +6,7 @@ ghost use Rattle.row_arena.specs.Held.{is_held, row_at};
 ghost use Rattle.derivation.specs.Derived.{Derived};
 ghost use Rattle.pb_propagate.specs.Entries.{set_of};
 ghost use Rattle.search_measure.specs.Trails.{IsExactBelow};
-ghost use Rattle.pb_search.specs.Loop.{Follows, IsAtConflict};
+ghost use Rattle.pb_search.specs.Loop.{Follows, IsAtConflict, StopsWhereSpent};
 ghost use Rattle.pb_search.specs.Searching.{AreJoined};
 
 use crate::learning::{NewRow, learn};
@@ -38,6 +38,7 @@ pub(crate) fn on_conflict(
     requires held { IsTrue (is_held conflict.0 engine.old.held) }
     requires falsified { Falsified (set_of engine.old.trail) (row_at conflict.0 engine.old.held) }
     ensures follows { IfOk result (λ move. (first : Derived) (pairs : List PairNo) → IsAtConflict limits.now pairs first engine.old deriv.old → Follows limits.now pairs first deriv.old engine.new deriv.new move) }
+    ensures stops { IfOk result (StopsWhereSpent limits.now engine.old deriv.old deriv.new) }
 {
     // For what their contracts say: the lines of an analysis keep the law of a written proof, and the live rows are in order.
     cuts_stay_lawful();

@@ -1,12 +1,9 @@
 // What is done with a row that a conflict teaches.
-ghost use Rattle.std.specs.Prelude.{◌≡◌, ◌<◌, ◌≤◌, ◌^◌, IfOk, IsFalse, IsTrue, None, OnOk, Some, length};
+ghost use Rattle.std.specs.Prelude.{◌≡◌, ◌<◌, ◌^◌, IfOk, IsFalse, OnOk, Some};
 ghost use Rattle.pb_rows.specs.Rows.{IsWellFormedRow};
 ghost use Rattle.pb_rows.specs.Formula.{row_of};
-ghost use Rattle.proof_lines.specs.Spelling.{most_bytes};
-ghost use Rattle.proof_lines.specs.Texts.{is_spellable_note, note_text};
 ghost use Rattle.proof_rules.specs.Held.{is_held};
 ghost use Rattle.derivation.specs.Ready.{IsReady};
-ghost use Rattle.pb_propagate.specs.Entries.{level_of};
 ghost use Rattle.pb_propagate.specs.Engines.{decisions_at};
 ghost use Rattle.agreement.specs.Agreement.{Agree};
 ghost use Rattle.conflict_cuts.specs.Learned.{Asserts};

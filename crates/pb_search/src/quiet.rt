@@ -1,5 +1,5 @@
 // What follows where nothing is due.
-ghost use Rattle.std.specs.Prelude.{◌≡◌, ◌≤◌, ◌^◌, IfNone, IfOk, IfSome, List, length};
+ghost use Rattle.std.specs.Prelude.{◌≡◌, IfNone, IfOk, IfSome, length};
 ghost use Rattle.derivation.specs.Derived.{Derived};
 ghost use Rattle.pb_propagate.specs.Engines.{IsIdle};
 ghost use Rattle.lazy_stability.specs.Table.{sizes_of};

@@ -21,12 +21,14 @@ use Rattle.proof_rules.specs.Texts.{IsValidText}
 use Rattle.proof_rules.specs.Told.{AreTrueNotes, held_by}
 use Rattle.proof_rules.specs.Held.{Held}
 use Rattle.proof_rules.proofs.FarBounds.{free-follows, refuted-follows, short-refutes}
-use Rattle.derivation.specs.Derived.{Derived, IsConcludedValid, StandsFor, StaysValid}
+use Rattle.derivation.specs.Derived.{Derived, IsConcludedValid, StaysValid}
 use Rattle.derivation.specs.Steps.{IsWritable, concluded}
 use Rattle.hrt_solve.specs.Gauged.{HasBoundRow, IsGauged, bound_claim, found_claim, value_of}
+use Rattle.lazy_stability.specs.Laws.{LawfulRowsAreLazy}
 use Rattle.pb_search.specs.Knowing.{HasContradiction}
 use Rattle.hrt_solve.specs.Claimed.{CanClaim, EndsProof}
 use Rattle.hrt_solve.specs.Lawful.{IsLawfulWith}
+use Rattle.hrt_solve.specs.Writing.{IsProof}
 use Rattle.hrt_solve.proofs.KeepsLaw.{lawful_gauged, lawful_proof}
 
 -- ---- it can be written
@@ -115,11 +117,12 @@ best_shown lists size d c least =
 
 -- ---- the whole text
 
-pub ends_proof : (lists : Lists) (claim : Claim) (old new : Derived) → CanClaim lists claim old → new ≡ concluded claim old → StaysValid old new → IsConcludedValid old new claim → EndsProof lists claim old new
-ends_proof lists claim old new can end after valid = record {
-  is = end;
-  valid = after;
-  is_proof = record {
+module _ (lists : Lists) (claim : Claim) (old new : Derived) (can : CanClaim lists claim old) (end : new ≡ concluded claim old) (after : StaysValid old new) (valid : IsConcludedValid old new claim) where
+  same : new.lists ≡ lists
+  same = ap (λ (d : Derived). d.lists) end ∙ can.lists_are
+
+  whole : IsProof lists new.pending claim old.held.learn_notes
+  whole = record {
     lawful = lawful_proof lists claim old new can.lists_are can.so_far can.writable (subst (λ (l : Lists). Shows (formula l) old.state claim) (sym can.lists_are) can.shown) end;
     valid = subst (λ (l : Lists). IsValidText (formula l) new.pending claim) can.lists_are (valid [] can.so_far.stands.stands);
     notes_true = subst (λ (l : Lists). AreTrueNotes l new.pending) same (after [] can.so_far.stands.stands).notes_true;
@@ -127,8 +130,7 @@ ends_proof lists claim old new can end after valid = record {
         ap (λ (l : Lists). (held_by l new.pending).learn_notes) (sym same)
         ∙ ap (λ (h : Held). h.learn_notes) (after [] can.so_far.stands.stands).tells.held_is
         ∙ ap (λ (d : Derived). d.held.learn_notes) end;
-  };
-}
-  where
-    same : new.lists ≡ lists
-    same = ap (λ (d : Derived). d.lists) end ∙ can.lists_are
+  }
+
+  pub ends_proof : LawfulRowsAreLazy → EndsProof lists claim old new
+  ends_proof lazy = record { is = end; valid = after; is_proof = whole; lazy = lazy lists new.pending whole.lawful.lawful whole.notes_true }

@@ -1,5 +1,5 @@
 -- What stands once the first matching is logged, and what can be claimed then.
-use Rattle.std.proofs.Common.{◌≡◌, ℕ, ◌+◌, ◌<◌, ◌≤◌, ◌^◌, ◌==◌, ◌||◌, true, List, [], ◌∷◌, ◌++◌, ℤ, length, refl, sym, ap, ap₂, ◌∙◌, subst, arith}
+use Rattle.std.proofs.Common.{◌≡◌, ℕ, ◌+◌, ◌<◌, ◌≤◌, ◌^◌, ◌==◌, true, List, [], ◌∷◌, ◌++◌, ℤ, length, refl, sym, ap, ap₂, ◌∙◌, subst, arith}
 use Rattle.std.specs.Prelude.{Option, Some, None, IsTrue}
 use Rattle.std.specs.List.{All}
 use Rattle.std.specs.List.Sorted.{IsStrictlyIncreasing}
@@ -7,7 +7,6 @@ use Rattle.std.proofs.lemmas.Bool.{eq-eqb, or_left, or_right}
 use Rattle.std.proofs.lemmas.List.{length-map}
 use Rattle.hrt_base.specs.declared.numbered.PairNo.{PairNo}
 use Rattle.hrt_base.specs.declared.numbered.RowNo.{RowNo}
-use Rattle.pb_rows.specs.Terms.{PlainRow}
 use Rattle.pb_rows.specs.Formula.{NumberedRow, row_of}
 use Rattle.rank_tables.specs.Instance.{Lists, pair_count}
 use Rattle.rank_tables.specs.Numbers.{is_in, numbers_to}
@@ -27,9 +26,9 @@ use Rattle.hrt_solve.specs.declared.ends.SolveEnd.{SolveEnd}
 use Rattle.hrt_solve.specs.declared.starting.Started.{Started}
 use Rattle.hrt_solve.specs.Gauged.{AreNumbersOf, HasBoundRow, IsGauged, IsMost, found_claim}
 use Rattle.hrt_solve.specs.Lawful.{IsLawfulWith}
-use Rattle.hrt_solve.specs.Started.{HoldsBeside, IsPromoted, IsStarted, bound_numbers, numbers_beside}
+use Rattle.hrt_solve.specs.Started.{HoldsBeside, IsPromoted, IsStarted, bound_numbers}
 use Rattle.hrt_solve.specs.Claimed.{CanClaim}
-use Rattle.hrt_solve.specs.Writing.{IsProof, IsQuickEnd}
+use Rattle.hrt_solve.specs.Writing.{IsQuickEnd}
 use Rattle.hrt_solve.proofs.Claiming.{found_shown, found_writable}
 use Rattle.hrt_solve.proofs.Holding.{holds_more}
 use Rattle.hrt_solve.proofs.KeepsLaw.{lawful_closed, lawful_gauged, lawful_logged}

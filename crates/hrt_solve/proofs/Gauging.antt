@@ -15,11 +15,10 @@ use Rattle.proof_rules.specs.Claims.{at_least_row}
 use Rattle.derivation.specs.Deletions.{Deletions, deleted_count, is_deleted}
 use Rattle.derivation.specs.Derived.{Derived}
 use Rattle.derivation.specs.Steps.{first_derived}
-use Rattle.proof_rules.specs.Held.{Held}
 use Rattle.rank_tables.specs.Stability.{is_matching}
 use Rattle.capacity_bound.specs.Bound.{DerivesBound, bound_row}
 use Rattle.capacity_bound.specs.Ceiling.{BoundsMatchings, IsCeiling}
-use Rattle.pair_reduction.specs.Reduced.{AreInNone, GoesOn, HoldsUnits, MakesFew}
+use Rattle.pair_reduction.specs.Reduced.{AreInNone, GoesOn, MakesFew}
 use Rattle.hrt_solve.specs.Gauged.{AreNumbersOf, HasBoundRow, IsGauged, IsMost, value_of}
 
 -- ---- how many pairs are deleted

@@ -24,7 +24,7 @@ use Rattle.proof_rules.proofs.Held.{is_held-keeping}
 use Rattle.proof_rules.proofs.HeldLive.{held_live-keeping}
 use Rattle.derivation.specs.Deletions.{Deletions, is_deleted}
 use Rattle.derivation.specs.Derived.{Derived, StandsFor}
-use Rattle.derivation.specs.Pieces.{ALine, ANote, Piece, StandsTraced, TakesLine, opened, traced}
+use Rattle.derivation.specs.Pieces.{ALine, ANote, Piece, StandsTraced, opened, traced}
 use Rattle.derivation.specs.Ready.{IsReady}
 use Rattle.derivation.specs.Steps.{IsWritable, concluded, first_derived, with_new_row, with_solution}
 use Rattle.derivation.specs.Traces.{AreAllGone, IsKnownStep, IsLawfulPol, IsLawfulProof, IsLawfulText, Trace, since_line, trace_of}

@@ -6,3 +6,4 @@ mod Claiming
 mod KeepsLaw
 mod Holding
 mod FirstLogged
+mod SearchEnds

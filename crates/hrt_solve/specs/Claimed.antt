@@ -1,5 +1,5 @@
 -- What must stand before a proof is ended with a claim, and what it is then.
-use Rattle.std.specs.Prelude.{◌≡◌, ◌<◌, ℕ, Bool, true, false, List, length}
+use Rattle.std.specs.Prelude.{◌≡◌, ◌<◌, ℕ, Bool, true, false, List}
 use Rattle.hrt_base.specs.declared.numbered.PairNo.{PairNo}
 use Rattle.rank_tables.specs.Instance.{Lists}
 use Rattle.stability_model.specs.Model.{formula}
@@ -8,6 +8,7 @@ use Rattle.proof_lines.specs.declared.line.Line.TheVariants.{Conclusion}
 use Rattle.proof_rules.specs.Claims.{Shows}
 use Rattle.derivation.specs.Derived.{Derived, StaysValid}
 use Rattle.derivation.specs.Steps.{IsWritable, concluded}
+use Rattle.lazy_stability.specs.Laws.{AreRowsLazy}
 use Rattle.pb_search.specs.declared.found.Found.{Found}
 use Rattle.pb_search.specs.declared.found.Found.TheVariants.{Best, Bounded}
 use Rattle.pb_search.specs.Knowing.{HasContradiction}
@@ -22,11 +23,12 @@ pub record CanClaim (lists : Lists) (claim : Claim) (d : Derived) : Type 0 where
   pub shown : Shows (formula lists) d.state claim
   pub writable : IsWritable (Conclusion claim)
 
--- the proof was ended, and what is pending is the whole of it
+-- the proof was ended; where it stood for the empty text, what is pending is the whole of it, and rows of pairs are held by its load notes alone
 pub record EndsProof (lists : Lists) (claim : Claim) (old new : Derived) : Type 0 where
   pub is : new ≡ concluded claim old
   pub valid : StaysValid old new
   pub is_proof : IsProof lists new.pending claim old.held.learn_notes
+  pub lazy : AreRowsLazy lists new.pending
 
 -- ---- what a search found
 

@@ -6,6 +6,7 @@ ghost use Rattle.hrt_solve.specs.Searched.{solve_claim};
 
 use derivation::Derivation;
 use hrt_base::NoMemory;
+use lazy_stability::lawful_rows_are_lazy;
 use proof_lines::Claim;
 use stability_model::Model;
 use std::alloc::Global;
@@ -41,5 +42,7 @@ pub(crate) fn conclude(
     ensures { OnOk result (EndsProof model.now claim deriv.old deriv.new) }
 {
     deriv.conclude(alloc, model, claim)?;
+    // For what the law says of the whole text.
+    lawful_rows_are_lazy();
     Ok(())
 }

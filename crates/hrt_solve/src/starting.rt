@@ -3,6 +3,7 @@ ghost use Rattle.std.specs.Prelude.{◌≡◌, [], IfOk, OnOk, length};
 ghost use Rattle.derivation.specs.Derived.{StandsFor};
 ghost use Rattle.derivation.specs.Ready.{IsReady};
 ghost use Rattle.derivation.specs.Steps.{first_derived};
+ghost use Rattle.lazy_stability.specs.Laws.{AreRowsLazy};
 ghost use Rattle.hrt_solve.specs.Claimed.{CanClaim};
 ghost use Rattle.hrt_solve.specs.Gauged.{found_claim};
 ghost use Rattle.hrt_solve.specs.Started.{IsStarted};
@@ -87,6 +88,7 @@ pub(crate) fn conclude_first(
     requires { IsStarted model.now started deriv.old }
     ensures said { IfOk result (λ end. IsQuickEnd model.now end) }
     ensures proof { IfOk result (λ end. IsProof model.now deriv.new.pending (found_claim end.ceiling (length end.pairs.items)) end.conflicts) }
+    ensures lazy { OnOk result (AreRowsLazy model.now deriv.new.pending) }
 {
     close_where_met(alloc, model, &started, deriv)?;
     let Started {

@@ -1,7 +1,7 @@
 -- Which rows a derivation holds before a search: those of residents and hospitals, of the deleted pairs, and what is made behind them.
 use Rattle.std.proofs.Common.{◌≡◌, ℕ, zero, suc, ◌+◌, ◌≤◌, ◌==◌, Bool, true, false, not, ◌||◌, nat_le, List, [], ◌∷◌, ◌++◌, length, append_assoc, append-nil, get_or, refl, sym, ap, ap₂, ◌∙◌, subst, inl, inr, arith}
 use Rattle.std.specs.Prelude.{Option, Some, None, IfSome}
-use Rattle.std.proofs.lemmas.Bool.{and_from, and_parts, eq-eqb, eqb-true, le-leb, leb-true, or_cases, or_left, or_right}
+use Rattle.std.proofs.lemmas.Bool.{and_from, and_parts, eq-eqb, eqb-true, false_from_ne_true, le-leb, leb-true, or_cases, or_left, or_right}
 use Rattle.hrt_base.specs.declared.literal.Term.{Term}
 use Rattle.hrt_base.specs.declared.numbered.RowNo.{RowNo}
 use Rattle.pb_rows.specs.Terms.{PlainRow}
@@ -46,10 +46,6 @@ named_unit (Some id ∷ more) n i = elim (or_cases (id.0 == n) (is_in n (unit_nu
   | inr e ↦ let rest = named_unit more n e in (suc rest.0, rest.1, rest.2, rest.3)
 ]
 
-not_true : (b : Bool) → (b ≡ true → ⊥) → b ≡ false
-not_true true h = absurd (h refl)
-not_true false h = refl
-
 -- the variable of a row's first term
 first_variable : Option PlainRow → ℕ
 first_variable None = 0
@@ -70,7 +66,7 @@ units_apart live low (None ∷ more) h =
     units_apart live (suc low) more (λ k id e. let place : low + suc k ≡ suc low + k = omega arith in h (suc k) id e ∙ ap (λ (p : ℕ). Some (unit_row (suc p))) place)
 units_apart live low (Some id ∷ more) h =
     and_from (not (is_in id.0 (unit_numbers more))) (is_distinct (unit_numbers more))
-    (ap not (not_true (is_in id.0 (unit_numbers more)) (λ i. again (named_unit more id.0 i))))
+    (ap not (false_from_ne_true (is_in id.0 (unit_numbers more)) (λ i. again (named_unit more id.0 i))))
     (units_apart live (suc low) more (λ k id e. let place : low + suc k ≡ suc low + k = omega arith in h (suc k) id e ∙ ap (λ (p : ℕ). Some (unit_row (suc p))) place))
   where
     again : ((k : ℕ) × (other : RowNo) × (get_or more k None ≡ Some other) × (other.0 ≡ id.0)) → ⊥
@@ -109,14 +105,7 @@ module _ (lists : Lists) (map : Deletions) (first reduced : Derived) (is_first :
       (λ i. let at = holds.each n i in place_named n at.0 (record { 0 = n }) at.1 refl)
       (λ i. let at = named_unit map n i in subst (λ (j : ℕ). is_in j holds.ids ≡ true) at.3 (holds.all (suc at.0) at.1 at.2))
 
-  first_ones : List ℕ
-  first_ones = numbers_to (pair_row_no lists 0)
-
-  no_more : (ns : List ℕ) → ns ++ [] ≡ ns
-  no_more ns = append-nil ns
-
-  held_by_both : (n : ℕ) → is_held reduced.held n ≡ is_in n (first_ones ++ (unit_numbers map ++ []))
-  unfolding first_ones
+  held_by_both : (n : ℕ) → is_held reduced.held n ≡ is_in n (numbers_beside lists map [])
   held_by_both n =
       ap (λ (h : Held). is_held h n) held_is ∙ is_held-keeping (first_held lists) holds.ids n
       ∙ ap₂ (λ (b c : Bool). b || c) (ap (is_in n) (append-nil (numbers_to (pair_row_no lists 0)))) (ids_are n ∙ ap (is_in n) (sym (append-nil (unit_numbers map))))
@@ -136,7 +125,6 @@ module _ (lists : Lists) (map : Deletions) (first reduced : Derived) (is_first :
       ap (λ (h : Held). is_in n h.kept) held_is ∙ is_in-append n (numbers_to (pair_row_no lists 0)) holds.ids ∙ or_left (is_in n (numbers_to (pair_row_no lists 0))) (is_in n holds.ids) there
 
   pub holds_units : length map ≡ pair_count lists → AreUnitRows reduced.state.live map → HoldsBeside map [] reduced
-  unfolding first_ones
   holds_units pairs units = record {
     pairs = pairs ∙ ap pair_count (sym same_lists);
     units = units;
@@ -175,7 +163,7 @@ module _ (map : Deletions) (more : List ℕ) (row : PlainRow) (old new : Derived
         ap (λ (h : Held). is_in n h.kept) keeps.held ∙ is_in-append n old.held.kept (old.state.next ∷ []) ∙ or_left (is_in n old.held.kept) (is_in n (old.state.next ∷ [])) before;
     distinct =
         ap (λ (l : Lists). is_distinct (numbers_beside l map (more ++ old.state.next ∷ []))) keeps.lists ∙ ap is_distinct appended
-        ∙ distinct_push (numbers_beside old.lists map more) old.state.next holds.distinct (sym (holds.holds old.state.next) ∙ not_true (is_held old.held old.state.next) next_unheld);
+        ∙ distinct_push (numbers_beside old.lists map more) old.state.next holds.distinct (sym (holds.holds old.state.next) ∙ false_from_ne_true (is_held old.held old.state.next) next_unheld);
     holds = λ n.
         ap (λ (h : Held). is_held h n) keeps.held ∙ is_held-keeping old.held (old.state.next ∷ []) n
         ∙ ap (λ (b : Bool). b || is_in n (old.state.next ∷ [])) (holds.holds n)

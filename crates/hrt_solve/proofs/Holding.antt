@@ -1,5 +1,5 @@
 -- Which rows a derivation holds before a search: those of residents and hospitals, of the deleted pairs, and what is made behind them.
-use Rattle.std.proofs.Common.{◌≡◌, ℕ, zero, suc, ◌+◌, ◌≤◌, ◌==◌, Bool, true, false, not, ◌||◌, nat_le, List, [], ◌∷◌, ◌++◌, length, append_assoc, append-nil, get_or, refl, sym, ap, ap₂, ◌∙◌, subst, inl, inr, arith}
+use Rattle.std.proofs.Common.{◌≡◌, ℕ, zero, suc, ◌+◌, ◌≤◌, ◌==◌, Bool, true, not, ◌||◌, nat_le, List, [], ◌∷◌, ◌++◌, length, append_assoc, append-nil, get_or, refl, sym, ap, ap₂, ◌∙◌, subst, inl, inr, arith}
 use Rattle.std.specs.Prelude.{Option, Some, None, IfSome}
 use Rattle.std.proofs.lemmas.Bool.{and_from, and_parts, eq-eqb, eqb-true, false_from_ne_true, le-leb, leb-true, or_cases, or_left, or_right}
 use Rattle.hrt_base.specs.declared.literal.Term.{Term}

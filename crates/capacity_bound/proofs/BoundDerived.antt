@@ -1,6 +1,6 @@
 -- What the line and the note of the bound row do to a derivation.
 use Rattle.std.proofs.Common.{◌≡◌, ℕ, ◌-◌, ◌<◌, ◌≤◌, ◌^◌, true, List, [], ◌∷◌, ◌++◌, nat_le, length, refl, sym, ap, ap₂, ◌∙◌, subst, inr, arith}
-use Rattle.std.specs.Prelude.{IsTrue, slice_get, Option, None, Some, Result, Ok, Err, IsOk, OnErr, is_ok, decimal}
+use Rattle.std.specs.Prelude.{IsTrue, slice_get, Option, Some, Result, Ok, Err, IsOk, OnErr, is_ok, decimal}
 use Rattle.std.proofs.lemmas.Bool.{and_from, le-leb}
 use Rattle.std.proofs.lemmas.Fmt.{length-decimal-le}
 use Rattle.std.proofs.lemmas.List.{length-append}

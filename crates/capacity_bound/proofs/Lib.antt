@@ -10,3 +10,4 @@ pub mod Counted
 pub mod Pushed
 pub mod BoundDerived
 pub mod PutSums
+pub mod CeilingFew

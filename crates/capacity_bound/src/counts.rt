@@ -1,5 +1,6 @@
 // The ceiling.
 ghost use Rattle.std.specs.Prelude.{◌≡◌, ◌≤◌, not, count_by};
+ghost use Rattle.rank_tables.specs.Instance.{pair_count};
 ghost use Rattle.rank_tables.specs.Tables.{numbers_of};
 ghost use Rattle.rank_tables.specs.WellFormed.{IsWellFormed, most_residents};
 ghost use Rattle.stability_model.specs.Gone.{AreGone, ceiling, posts_left, residents_left};
@@ -59,6 +60,7 @@ pub fn ceiling(inst: &Instance, gone: &Deleted) -> u32
     ensures value { result ≡ ceiling inst.now (is_deleted gone.now) }
     ensures bounds { BoundsMatchings inst.now (is_deleted gone.now) result }
     ensures exact { AreGone inst.now (is_deleted gone.now) → IsCeiling inst.now result }
+    ensures few { result ≤ pair_count inst.now }
 {
     residents_left(inst, gone).min(posts_left(inst, gone)) as u32
 }

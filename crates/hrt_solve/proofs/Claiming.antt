@@ -8,7 +8,7 @@ use Rattle.std.proofs.lemmas.Int.{ints}
 use Rattle.hrt_base.specs.declared.numbered.RowNo.{RowNo}
 use Rattle.pb_rows.specs.Terms.{PlainRow, positive_part}
 use Rattle.pb_rows.specs.Normal.{normal_form}
-use Rattle.pb_rows.specs.Closure.{Implies}
+use Rattle.pb_rows.specs.Closure.{Implies, Refuted, none}
 use Rattle.pb_rows.specs.Formula.{NumberedRow, row_of, rows_of}
 use Rattle.rank_tables.specs.Numbers.{numbers_to}
 use Rattle.rank_tables.specs.Instance.{Lists, pair_count}
@@ -20,13 +20,16 @@ use Rattle.proof_rules.specs.Claims.{HasStronger, IsReached, IsUnpassed, Shows, 
 use Rattle.proof_rules.specs.Texts.{IsValidText}
 use Rattle.proof_rules.specs.Told.{AreTrueNotes, held_by}
 use Rattle.proof_rules.specs.Held.{Held}
-use Rattle.proof_rules.proofs.FarBounds.{free-follows}
-use Rattle.derivation.specs.Derived.{Derived, IsConcludedValid, StandsFor, StaysValid}
+use Rattle.proof_rules.proofs.FarBounds.{free-follows, refuted-follows, short-refutes}
+use Rattle.derivation.specs.Derived.{Derived, IsConcludedValid, StaysValid}
 use Rattle.derivation.specs.Steps.{IsWritable, concluded}
 use Rattle.hrt_solve.specs.Gauged.{HasBoundRow, IsGauged, bound_claim, found_claim, value_of}
-use Rattle.hrt_solve.specs.Lawful.{IsLawfulSoFar}
+use Rattle.lazy_stability.specs.Laws.{LawfulRowsAreLazy}
+use Rattle.pb_search.specs.Knowing.{HasContradiction}
+use Rattle.hrt_solve.specs.Claimed.{CanClaim, EndsProof}
+use Rattle.hrt_solve.specs.Lawful.{IsLawfulWith}
 use Rattle.hrt_solve.specs.Writing.{IsProof}
-use Rattle.hrt_solve.proofs.KeepsLaw.{lawful_proof}
+use Rattle.hrt_solve.proofs.KeepsLaw.{lawful_gauged, lawful_proof}
 
 -- ---- it can be written
 
@@ -45,7 +48,7 @@ bound_writable n h = record {
   short = omega (arith, number_short n h, length-append (signed_decimal (value_of n) ++ 32 ∷ 73 ∷ 78 ∷ 70 ∷ []) (10 ∷ []), length-append (signed_decimal (value_of n)) (32 ∷ 73 ∷ 78 ∷ 70 ∷ []));
 }
 
-found_writable : (n size : ℕ) → n < 2 ^ 32 → size < 2 ^ 32 → IsWritable (Conclusion (found_claim n size))
+pub found_writable : (n size : ℕ) → n < 2 ^ 32 → size < 2 ^ 32 → IsWritable (Conclusion (found_claim n size))
 found_writable n size h k = record {
   made = refl;
   small = rw (number_small n h, number_small size k) refl;
@@ -53,12 +56,6 @@ found_writable n size h k = record {
       let second : List ℕ = signed_decimal (value_of size) ++ [] in
       omega (arith, number_short n h, number_short size k, length-append (signed_decimal (value_of n) ++ 32 ∷ second) (10 ∷ []), length-append (signed_decimal (value_of n)) (32 ∷ second), length-append (signed_decimal (value_of size)) []);
 }
-
-pub bound_claim_writable : (n : ℕ) (claim : Claim) → n < 2 ^ 32 → claim ≡ bound_claim n → IsWritable (Conclusion claim)
-bound_claim_writable n claim h is = subst (λ (c : Claim). IsWritable (Conclusion c)) (sym is) (bound_writable n h)
-
-pub found_claim_writable : (n size : ℕ) (claim : Claim) → n < 2 ^ 32 → size < 2 ^ 32 → claim ≡ found_claim n size → IsWritable (Conclusion claim)
-found_claim_writable n size claim h k is = subst (λ (c : Claim). IsWritable (Conclusion c)) (sym is) (found_writable n size h k)
 
 -- ---- it is shown
 
@@ -91,10 +88,14 @@ unlogged : (least : Option ℤ) (l : ℤ) → least ≡ None → IsUnpassed leas
 unlogged None l e = tt
 unlogged (Some v) l e = absurd (cc)
 
-pub bound_claim_shown : (lists : Lists) (n : ℕ) (claim : Claim) (id : Option RowNo) (d : Derived) → claim ≡ bound_claim n → IsGauged lists n id d → d.state.least ≡ None → Shows (formula d.lists) d.state claim
-bound_claim_shown lists n claim id d is gauged least =
-    subst (λ (c : Claim). Shows (formula d.lists) d.state c) (sym is)
-    (subst (λ (l : Lists). Shows (formula l) d.state (bound_claim n)) (sym gauged.lists_are) ((unlogged d.state.least (value_of n) least, row_shown lists n id d gauged.bound), tt))
+pub claims_bound : (lists : Lists) (n : ℕ) (claim : Claim) (id : Option RowNo) (d : Derived) → claim ≡ bound_claim n → n < 2 ^ 32 → IsGauged lists n id d → IsLawfulWith lists id d → d.state.least ≡ None → CanClaim lists claim d
+claims_bound lists n claim id d is small gauged lawful least =
+    subst (λ (c : Claim). CanClaim lists c d) (sym is) (record {
+      lists_are = gauged.lists_are;
+      so_far = lawful_gauged lists n id d lawful gauged.bound;
+      shown = ((unlogged d.state.least (value_of n) least, row_shown lists n id d gauged.bound), tt);
+      writable = bound_writable n small;
+    })
 
 unpassed : (least : Option ℤ) (n size : ℕ) → least ≡ Some (value_of size) → size ≤ n → IsUnpassed least (value_of n)
 unpassed least n size e h = subst (λ (o : Option ℤ). IsUnpassed o (value_of n)) (sym e) (omega (arith, ints))
@@ -102,23 +103,34 @@ unpassed least n size e h = subst (λ (o : Option ℤ). IsUnpassed o (value_of n
 reached : (least : Option ℤ) (size : ℕ) → least ≡ Some (value_of size) → IsReached least (value_of size)
 reached least size e = subst (λ (o : Option ℤ). IsReached o (value_of size)) (sym e) (omega (arith, ints))
 
-pub found_claim_shown : (lists : Lists) (n size : ℕ) (claim : Claim) (id : Option RowNo) (d : Derived) → claim ≡ found_claim n size → IsGauged lists n id d → d.state.least ≡ Some (value_of size) → size ≤ n →
-    Shows (formula d.lists) d.state claim
-found_claim_shown lists n size claim id d is gauged least h =
-    subst (λ (c : Claim). Shows (formula d.lists) d.state c) (sym is)
-    (subst (λ (l : Lists). Shows (formula l) d.state (found_claim n size)) (sym gauged.lists_are)
-    ((unpassed d.state.least n size least h, row_shown lists n id d gauged.bound), reached d.state.least size least))
+-- a matching of so many pairs is the largest that was logged, and the bound row is live
+pub found_shown : (lists : Lists) (n size : ℕ) (id : Option RowNo) (d : Derived) → HasBoundRow lists n id d → d.state.least ≡ Some (value_of size) → size ≤ n → Shows (formula lists) d.state (found_claim n size)
+found_shown lists n size id d bound least h = ((unpassed d.state.least n size least h, row_shown lists n id d bound), reached d.state.least size least)
+
+-- the same, and a live row holds nowhere: what it doesn't allow follows
+pub best_shown : (lists : Lists) (size : ℕ) (d : Derived) → HasContradiction d → d.state.least ≡ Some (value_of size) → Shows (formula lists) d.state (found_claim size size)
+best_shown lists size d c least =
+    ((unpassed d.state.least size size least (omega arith), inl (refuted-follows (live_rows d.state) (at_least_row (formula lists) (value_of size)) refuted)), reached d.state.least size least)
+  where
+    refuted : Refuted (live_rows d.state) none
+    refuted = short-refutes (live_rows d.state) c.row none (row_contained d.state.live c.id.0 c.row c.live) c.contradicts
 
 -- ---- the whole text
 
-pub proof_made : (lists : Lists) (n : ℕ) (id : Option RowNo) (claim said : Claim) (first old new : Derived) → said ≡ claim → IsGauged lists n id old → IsLawfulSoFar lists old → IsWritable (Conclusion said) → Shows (formula old.lists) old.state said → StandsFor [] first →
-    StaysValid first old → new ≡ concluded said old → StaysValid old new → IsConcludedValid old new said → IsProof lists new.pending claim 0
-proof_made lists n id claim said first old new is gauged so_far writable shown stands before end after valid = record {
-  lawful = lawful_proof lists said old new gauged.lists_are so_far writable shown end;
-  valid = subst (λ (c : Claim). IsValidText (formula lists) new.pending c) is (subst (λ (l : Lists). IsValidText (formula l) new.pending said) gauged.lists_are (valid [] (before [] stands)));
-  notes_true = subst (λ (l : Lists). AreTrueNotes l new.pending) (ap (λ (d : Derived). d.lists) end ∙ gauged.lists_are) (after [] (before [] stands)).notes_true;
-  learned_are =
-      ap (λ (l : Lists). (held_by l new.pending).learn_notes) (sym (ap (λ (d : Derived). d.lists) end ∙ gauged.lists_are))
-      ∙ ap (λ (h : Held). h.learn_notes) (after [] (before [] stands)).tells.held_is
-      ∙ ap (λ (d : Derived). d.held.learn_notes) end ∙ gauged.unlearned;
-}
+module _ (lists : Lists) (claim : Claim) (old new : Derived) (can : CanClaim lists claim old) (end : new ≡ concluded claim old) (after : StaysValid old new) (valid : IsConcludedValid old new claim) where
+  same : new.lists ≡ lists
+  same = ap (λ (d : Derived). d.lists) end ∙ can.lists_are
+
+  whole : IsProof lists new.pending claim old.held.learn_notes
+  whole = record {
+    lawful = lawful_proof lists claim old new can.lists_are can.so_far can.writable (subst (λ (l : Lists). Shows (formula l) old.state claim) (sym can.lists_are) can.shown) end;
+    valid = subst (λ (l : Lists). IsValidText (formula l) new.pending claim) can.lists_are (valid [] can.so_far.stands.stands);
+    notes_true = subst (λ (l : Lists). AreTrueNotes l new.pending) same (after [] can.so_far.stands.stands).notes_true;
+    learned_are =
+        ap (λ (l : Lists). (held_by l new.pending).learn_notes) (sym same)
+        ∙ ap (λ (h : Held). h.learn_notes) (after [] can.so_far.stands.stands).tells.held_is
+        ∙ ap (λ (d : Derived). d.held.learn_notes) end;
+  }
+
+  pub ends_proof : LawfulRowsAreLazy → EndsProof lists claim old new
+  ends_proof lazy = record { is = end; valid = after; is_proof = whole; lazy = lazy lists new.pending whole.lawful.lawful whole.notes_true }

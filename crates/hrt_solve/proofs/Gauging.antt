@@ -15,11 +15,10 @@ use Rattle.proof_rules.specs.Claims.{at_least_row}
 use Rattle.derivation.specs.Deletions.{Deletions, deleted_count, is_deleted}
 use Rattle.derivation.specs.Derived.{Derived}
 use Rattle.derivation.specs.Steps.{first_derived}
-use Rattle.proof_rules.specs.Held.{Held}
 use Rattle.rank_tables.specs.Stability.{is_matching}
 use Rattle.capacity_bound.specs.Bound.{DerivesBound, bound_row}
 use Rattle.capacity_bound.specs.Ceiling.{BoundsMatchings, IsCeiling}
-use Rattle.pair_reduction.specs.Reduced.{AreInNone, GoesOn, HoldsUnits, MakesFew}
+use Rattle.pair_reduction.specs.Reduced.{AreInNone, GoesOn, MakesFew}
 use Rattle.hrt_solve.specs.Gauged.{AreNumbersOf, HasBoundRow, IsGauged, IsMost, value_of}
 
 -- ---- how many pairs are deleted
@@ -52,16 +51,15 @@ record Keeps (old new : Derived) : Type 0 where
   lists : new.lists ≡ old.lists
   claim : new.claim ≡ old.claim
   least : new.state.least ≡ old.state.least
-  learned : new.held.learn_notes ≡ old.held.learn_notes
   next : new.state.next ≤ old.state.next + 1
 
 keeps : (lists : Lists) (map : Deletions) (id : Option RowNo) (old new : Derived) → DerivesBound lists map id old new → Keeps old new
-keeps lists map None old new derived = subst (Keeps old) (sym derived.1) (record { lists = refl; claim = refl; least = refl; learned = refl; next = omega arith })
-keeps lists map (Some id) old new derived = subst (Keeps old) (sym derived.is) (record { lists = refl; claim = refl; least = refl; learned = refl; next = omega arith })
+keeps lists map None old new derived = subst (Keeps old) (sym derived.1) (record { lists = refl; claim = refl; least = refl; next = omega arith })
+keeps lists map (Some id) old new derived = subst (Keeps old) (sym derived.is) (record { lists = refl; claim = refl; least = refl; next = omega arith })
 
 -- ---- the whole, from a new derivation
 
-module _ (lists : Lists) (map : Deletions) (id : Option RowNo) (first reduced new : Derived) (is_first : first ≡ first_derived lists) (on : GoesOn first reduced) (units : HoldsUnits first reduced map) (derived : DerivesBound lists map id reduced new) where
+module _ (lists : Lists) (map : Deletions) (id : Option RowNo) (first reduced new : Derived) (is_first : first ≡ first_derived lists) (on : GoesOn first reduced) (derived : DerivesBound lists map id reduced new) where
   kept : Keeps reduced new
   kept = keeps lists map id reduced new derived
 
@@ -70,7 +68,6 @@ module _ (lists : Lists) (map : Deletions) (id : Option RowNo) (first reduced ne
     lists_are = kept.lists ∙ on.lists ∙ ap (λ (d : Derived). d.lists) is_first;
     unconcluded = kept.claim ∙ on.claim ∙ ap (λ (d : Derived). d.claim) is_first;
     bound = has_row lists map top id reduced new e derived row;
-    unlearned = kept.learned ∙ ap (λ (h : Held). h.learn_notes) units.held ∙ ap (λ (d : Derived). d.held.learn_notes) is_first;
   }
 
   pub unlogged : new.state.least ≡ None

@@ -1,4 +1,4 @@
--- The lines of a bound and of a quick solve keep the law of a written proof.
+-- The lines of a bound and of a first matching keep the law of a written proof, and so does the whole.
 use Rattle.std.proofs.Common.{◌≡◌, ℕ, zero, suc, ◌+◌, ◌<◌, ◌==◌, true, false, ℤ, List, [], ◌∷◌, ◌++◌, nat_le, length, refl, sym, ap, ◌∙◌, subst, inl, inr, arith}
 use Rattle.std.specs.Prelude.{is_some, Option, Some, None}
 use Rattle.std.specs.List.{All}
@@ -24,7 +24,7 @@ use Rattle.proof_rules.proofs.Held.{is_held-keeping}
 use Rattle.proof_rules.proofs.HeldLive.{held_live-keeping}
 use Rattle.derivation.specs.Deletions.{Deletions, is_deleted}
 use Rattle.derivation.specs.Derived.{Derived, StandsFor}
-use Rattle.derivation.specs.Pieces.{ALine, ANote, Piece, StandsTraced, TakesLine, opened, traced}
+use Rattle.derivation.specs.Pieces.{ALine, ANote, Piece, StandsTraced, opened, traced}
 use Rattle.derivation.specs.Ready.{IsReady}
 use Rattle.derivation.specs.Steps.{IsWritable, concluded, first_derived, with_new_row, with_solution}
 use Rattle.derivation.specs.Traces.{AreAllGone, IsKnownStep, IsLawfulPol, IsLawfulProof, IsLawfulText, Trace, since_line, trace_of}
@@ -35,9 +35,9 @@ use Rattle.derivation.proofs.Traced.{open_place, pieces_traced}
 use Rattle.pair_reduction.specs.Added.{TellsUnits}
 use Rattle.pair_reduction.specs.Reduced.{GoesOn, HoldsUnits}
 use Rattle.capacity_bound.specs.Bound.{AddsBound, AddsBoundLawfully, DerivesBound}
+use Rattle.matching_log.specs.Logged.{Closes, Logs}
 use Rattle.hrt_solve.specs.Gauged.{HasBoundRow}
-use Rattle.hrt_solve.specs.Lawful.{AddsClosing, IsLawfulSoFar, IsLawfulWith, IsMarked}
-use Rattle.hrt_solve.specs.Logged.{Closes, Logs}
+use Rattle.hrt_solve.specs.Lawful.{IsLawfulSoFar, IsLawfulWith, IsMarked}
 
 -- ---- a row that is held
 
@@ -151,14 +151,11 @@ module _ (lists : Lists) (id : Option RowNo) (size : ℕ) (larger : RowNo) (old 
 
 -- ---- the line that closes the bound
 
-so_far : (lists : Lists) (n : ℕ) (id : Option RowNo) (d : Derived) → IsLawfulWith lists id d → HasBoundRow lists n id d → IsLawfulSoFar lists d
-so_far lists n None d l has = record { told = l.told; stands = l.stands; ready = l.ready; units = l.units; bound = λ some. absurd (omega (arith, has, some)) }
-so_far lists n (Some id) d l has = record { told = l.told; stands = l.stands; ready = l.ready; units = l.units; bound = λ some. ap is_some l.marked.0 }
-
 pub lawful_gauged : (lists : Lists) (n : ℕ) (id : Option RowNo) (d : Derived) → IsLawfulWith lists id d → HasBoundRow lists n id d → IsLawfulSoFar lists d
-lawful_gauged lists n id d l has = so_far lists n id d l has
+lawful_gauged lists n None d l has = record { told = l.told; stands = l.stands; ready = l.ready; units = l.units; bound = λ some. absurd (omega (arith, has, some)) }
+lawful_gauged lists n (Some id) d l has = record { told = l.told; stands = l.stands; ready = l.ready; units = l.units; bound = λ some. ap is_some l.marked.0 }
 
-module _ (lists : Lists) (id larger : RowNo) (old new : Derived) (l : IsLawfulWith lists (Some id) old) (held : is_held old.held larger.0 ≡ true) (takes : TakesLine (Pol (Id id ∷ Id larger ∷ Add ∷ [])) old new) (ready : IsReady new) where
+module _ (lists : Lists) (size : ℕ) (id larger sum : RowNo) (old new : Derived) (l : IsLawfulWith lists (Some id) old) (held : is_held old.held larger.0 ≡ true) (closes : Closes size id larger sum old new) where
   before : l.told.told ≡ record { place = Proving old.state; held = old.held }
   before = open_place [] old l.told l.stands l.ready.unconcluded
 
@@ -176,26 +173,17 @@ module _ (lists : Lists) (id larger : RowNo) (old new : Derived) (l : IsLawfulWi
       subst (λ (s : Option ℕ). IsLawfulPol old.lists old.state.next l.told.told.held s (Id id ∷ Id larger ∷ Add ∷ [])) (sym l.marked.0)
       (known, omega arith)
 
-  closed_line : IsLawfulSoFar lists new
-  closed_line =
+  pub lawful_closed : IsLawfulSoFar lists new
+  lawful_closed =
       let line : Piece = ALine (Pol (Id id ∷ Id larger ∷ Add ∷ [])) in
       let told : Trace = traced line old new l.told in
       record {
         told = told;
-        stands = pieces_traced [] (line ∷ []) old new l.told told l.stands (new, takes, (none_deleted old l.ready, law), (refl, refl));
-        ready = ready;
+        stands = pieces_traced [] (line ∷ []) old new l.told told l.stands (new, closes.adds, (none_deleted old l.ready, law), (refl, refl));
+        ready = subst IsReady (sym closes.is) (ready_row _ closes.text old l.ready);
         units = l.units;
         bound = λ some. ap (λ (s : Option ℕ). is_some (since_line old.state.next (Pol (Id id ∷ Id larger ∷ Add ∷ [])) s)) l.marked.0;
       }
-
-ready_closed : (seen : Lists) (n size : ℕ) (id : RowNo) (old new : Derived) → IsReady old → Closes seen n size (Some id) old new → IsReady new
-ready_closed seen n size id old new ready (inl done) = subst IsReady (sym done.2) (ready_row _ done.1 old ready)
-ready_closed seen n size id old new ready (inr not) = subst IsReady (sym not.1) ready
-
-pub lawful_closed : (lists seen : Lists) (n size : ℕ) (id : Option RowNo) (larger : RowNo) (old new : Derived) → IsLawfulWith lists id old → is_held old.held larger.0 ≡ true → HasBoundRow lists n id old → Closes seen n size id old new → AddsClosing id larger old new → IsLawfulSoFar lists new
-lawful_closed lists seen n size None larger old new l held has closes adds = subst (IsLawfulSoFar lists) (sym adds) (so_far lists n None old l has)
-lawful_closed lists seen n size (Some id) larger old new l held has closes (inl same) = subst (IsLawfulSoFar lists) (sym same) (so_far lists n (Some id) old l has)
-lawful_closed lists seen n size (Some id) larger old new l held has closes (inr takes) = closed_line lists id larger old new l held takes (ready_closed seen n size id old new l.ready closes)
 
 -- ---- the whole text
 

@@ -3,8 +3,7 @@ mod SmallClaims
 mod Sending
 mod Gauging
 mod Claiming
-mod Points
-mod LoggedMatching
-mod ClosingLine
 mod KeepsLaw
-mod QuickEnd
+mod Holding
+mod FirstLogged
+mod SearchEnds

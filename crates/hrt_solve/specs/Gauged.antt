@@ -1,17 +1,17 @@
 -- What the deletion rules and the ceiling come to for an instance, and what a proof claims of it.
-use Rattle.std.specs.Prelude.{◌≡◌, ◌≤◌, ℕ, List, length, count_by, IsTrue, ℤ, pos, neg_ℤ, Option, Some, None}
+pub use Rattle.matching_log.specs.Logged.{value_of}
+use Rattle.std.specs.Prelude.{◌≡◌, ◌≤◌, ℕ, List, length, count_by, IsTrue, Option, Some, None}
 use Rattle.hrt_base.specs.declared.numbered.RowNo.{RowNo}
 use Rattle.pb_rows.specs.Formula.{row_of}
 use Rattle.rank_tables.specs.Numbers.{numbers_to}
 use Rattle.rank_tables.specs.Instance.{Lists, pair_count}
 use Rattle.rank_tables.specs.Stability.{is_weakly_stable}
-use Rattle.stability_model.specs.Model.{formula}
 use Rattle.stability_model.specs.Gone.{AreGone, Pairs}
 use Rattle.proof_lines.specs.declared.line.Claim.{Claim}
 use Rattle.proof_lines.specs.declared.line.Claim.TheVariants.{Bounds}
-use Rattle.proof_rules.specs.Claims.{at_least_row}
 use Rattle.derivation.specs.Derived.{Derived}
 use Rattle.capacity_bound.specs.Ceiling.{IsCeiling}
+use Rattle.matching_log.specs.Logged.{ceiling_row}
 
 -- so many pairs are gone, and this is the ceiling
 pub record AreNumbersOf (lists : Lists) (deleted top : ℕ) : Type 0 where
@@ -26,10 +26,6 @@ IsMost lists n = (m : List ℕ) → IsTrue (is_weakly_stable lists m) → length
 
 -- ---- claims
 
--- a matching of so many pairs, as a value of the objective
-abbrev pub value_of : ℕ → ℤ
-value_of n = neg_ℤ (pos n)
-
 -- the claim that no weakly stable matching has more than n pairs
 abbrev pub bound_claim : ℕ → Claim
 bound_claim n = Bounds (Some (value_of n)) None
@@ -43,11 +39,10 @@ found_claim n size = Bounds (Some (value_of n)) (Some (value_of size))
 -- the row of this number is live and says that the objective is at least -n; without a number the instance has no pair
 abbrev pub HasBoundRow : Lists → ℕ → Option RowNo → Derived → Type 0
 HasBoundRow lists n None d = pair_count lists ≡ 0
-HasBoundRow lists n (Some id) d = row_of id.0 d.state.live ≡ Some (at_least_row (formula lists) (value_of n))
+HasBoundRow lists n (Some id) d = row_of id.0 d.state.live ≡ Some (ceiling_row lists n)
 
--- a derivation that shows the bound, in which no row was learned and which isn't concluded
+-- a derivation that shows the bound, and isn't concluded
 pub record IsGauged (lists : Lists) (n : ℕ) (id : Option RowNo) (d : Derived) : Type 0 where
   pub lists_are : d.lists ≡ lists
   pub unconcluded : d.claim ≡ None
   pub bound : HasBoundRow lists n id d
-  pub unlearned : d.held.learn_notes ≡ 0

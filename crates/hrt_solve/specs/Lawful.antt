@@ -1,13 +1,11 @@
 -- The law of a written proof, as a derivation keeps it on the way to its claim.
-use Rattle.std.specs.Prelude.{◌≡◌, ◌<◌, ◌⊎◌, [], ◌∷◌, length, IsTrue, is_some, Option, Some, None}
+use Rattle.std.specs.Prelude.{◌≡◌, ◌<◌, [], length, IsTrue, is_some, Option, Some, None}
 use Rattle.hrt_base.specs.declared.numbered.RowNo.{RowNo}
 use Rattle.rank_tables.specs.Instance.{Lists, pair_count}
 use Rattle.stability_model.specs.Model.{rows}
-use Rattle.proof_lines.specs.declared.line.Line.TheVariants.{Pol}
-use Rattle.proof_lines.specs.declared.line.PolStep.TheVariants.{Id, Add}
 use Rattle.proof_rules.specs.Held.{is_held}
 use Rattle.derivation.specs.Derived.{Derived}
-use Rattle.derivation.specs.Pieces.{StandsTraced, TakesLine}
+use Rattle.derivation.specs.Pieces.{StandsTraced}
 use Rattle.derivation.specs.Ready.{IsReady}
 use Rattle.derivation.specs.Traces.{AreAllGone, Trace}
 
@@ -33,8 +31,3 @@ pub record IsLawfulSoFar (lists : Lists) (d : Derived) : Type 0 where
   pub ready : IsReady d
   pub units : AreAllGone lists told.units
   pub bound : 0 < pair_count lists → IsTrue (is_some told.since)
-
--- the line that adds the row `larger` to the bound row was added, or nothing was done
-abbrev pub AddsClosing : Option RowNo → RowNo → Derived → Derived → Type 0
-AddsClosing None larger old new = new ≡ old
-AddsClosing (Some id) larger old new = (new ≡ old) ⊎ TakesLine (Pol (Id id ∷ Id larger ∷ Add ∷ [])) old new

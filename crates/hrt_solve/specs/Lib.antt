@@ -1,6 +1,7 @@
 pub mod Judged
 pub mod Gauged
-pub mod Logged
 pub mod Lawful
+pub mod Started
+pub mod Claimed
 pub mod Writing
 pub mod Searched

@@ -1,17 +1,21 @@
 // The upper bound: pairs are deleted, and the ceiling of those that are left is derived.
-ghost use Rattle.std.specs.Prelude.{◌≡◌, ◌<◌, ◌^◌, [], IfOk, IsErrOf, OnErr, OnOk, None};
+ghost use Rattle.std.specs.Prelude.{◌≡◌, ◌<◌, ◌≤◌, ◌^◌, [], IfOk, IsErrOf, OnErr, OnOk, None};
 ghost use Rattle.hrt_base.specs.Calls.{Rose};
-ghost use Rattle.derivation.specs.Derived.{StandsFor, StaysValid};
+ghost use Rattle.rank_tables.specs.Instance.{pair_count};
+ghost use Rattle.rank_tables.specs.WellFormed.{most_pairs};
+ghost use Rattle.derivation.specs.Derived.{StandsFor};
 ghost use Rattle.derivation.specs.Ready.{IsReady};
 ghost use Rattle.derivation.specs.Steps.{first_derived};
 ghost use Rattle.hrt_solve.specs.Gauged.{AreNumbersOf, IsGauged, IsMost, bound_claim};
 ghost use Rattle.hrt_solve.specs.Lawful.{IsLawfulWith};
+ghost use Rattle.hrt_solve.specs.Started.{HoldsBeside, bound_numbers};
 ghost use Rattle.hrt_solve.specs.Writing.{IsBoundText, IsBounded, IsProof, StopsWriting};
 
 use crate::BoundEnd;
+use crate::claims::conclude;
 use crate::saving::save_both;
 use capacity_bound::{ceiling, derive_bound};
-use derivation::Derivation;
+use derivation::{Deleted, Derivation};
 use hrt_base::{Begun, Host, NoMemory, Port, RowNo, WriteEnd};
 use pair_reduction::reduce;
 use proof_lines::Claim;
@@ -20,8 +24,10 @@ use stability_model::Model;
 use std::alloc::Global;
 
 /// What was found before a matching is looked for.
-#[derive(Clone, Copy)]
+#[derive(Drop)]
 pub(crate) struct Gauged {
+    /// The deleted pairs, with their rows.
+    pub gone: Deleted,
     pub end: BoundEnd,
     /// The row that says that no matching is larger than the ceiling; none where there is no pair.
     pub row: Option<RowNo>,
@@ -40,22 +46,25 @@ pub(crate) fn gauge(
     requires stands { StandsFor [] deriv.old }
     ensures numbers { IfOk result (λ gauged. AreNumbersOf inst.now gauged.end.deleted gauged.end.ceiling) }
     ensures most { IfOk result (λ gauged. IsMost inst.now gauged.end.ceiling) }
+    ensures few { IfOk result (λ gauged. gauged.end.ceiling ≤ pair_count inst.now) }
+    ensures small { IfOk result (λ gauged. gauged.end.ceiling ≤ most_pairs) }
     ensures gauged { IfOk result (λ gauged. IsGauged inst.now gauged.end.ceiling gauged.row deriv.new) }
     ensures lawful { IfOk result (λ gauged. IsLawfulWith inst.now gauged.row deriv.new) }
+    ensures holds { IfOk result (λ gauged. HoldsBeside gauged.gone (bound_numbers gauged.row) deriv.new) }
     ensures least { OnOk result (deriv.new.state.least ≡ None) }
     ensures next { OnOk result (deriv.new.state.next < 10 ^ 17) }
-    ensures valid { OnOk result (StaysValid deriv.old deriv.new) }
 {
-    // For what their contracts say: pairs and rows are few.
+    // For what their contracts say: pairs and rows are few, and the live rows are in order.
     let _pairs = inst.pairs();
     let _rows = model.row_count();
     let gone = reduce(alloc, inst, model, deriv)?;
+    let _next = deriv.next();
     let row = derive_bound(alloc, inst, model, &gone, deriv)?;
     let end = BoundEnd {
         deleted: gone.count(),
         ceiling: ceiling(inst, &gone),
     };
-    Ok(Gauged { end, row })
+    Ok(Gauged { gone, end, row })
 }
 
 // That no matching is larger than the ceiling.
@@ -76,7 +85,7 @@ fn bound_proof<'a>(alloc: Global, model: &Model<'a>) -> Result<(Derivation<'a>, 
 {
     let mut deriv = Derivation::new(alloc, model)?;
     let gauged = gauge(alloc, model.instance(), model, &mut deriv)?;
-    deriv.conclude(alloc, model, bound_claim(gauged.end.ceiling))?;
+    conclude(alloc, model, bound_claim(gauged.end.ceiling), &mut deriv)?;
     Ok((deriv, gauged.end))
 }
 

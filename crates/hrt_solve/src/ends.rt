@@ -10,8 +10,7 @@ pub struct BoundEnd {
 }
 
 /// What a solve comes to: how many pairs the two rules delete, the ceiling, how many pairs the first matching has, how many
-/// rows were learned, the pairs of the matching, rising, and whether they are as many as the ceiling, so that no other
-/// matching is larger.
+/// rows were learned, the pairs of the largest matching that was found, rising, and whether it was shown that no other is larger.
 #[derive(Debug, Drop)]
 pub struct SolveEnd {
     pub deleted: u32,

@@ -4,14 +4,14 @@
 
 mod bounding;
 mod checking;
-mod closing;
+mod claims;
 mod ends;
-mod logging;
 mod reading;
 mod refusal;
 mod saving;
 mod searching;
 mod solving;
+mod starting;
 
 pub use bounding::bound;
 pub use checking::{check, verify};

@@ -5,49 +5,22 @@ ghost use Rattle.hrt_solve.specs.Gauged.{found_claim};
 ghost use Rattle.hrt_solve.specs.Writing.{IsProof, IsQuickEnd, IsQuickText, IsSolvedQuickly, StopsWriting};
 
 use crate::SolveEnd;
-use crate::bounding::gauge;
-use crate::closing::close;
-use crate::logging::log;
 use crate::saving::save_both;
+use crate::starting::{conclude_first, start};
 use derivation::Derivation;
 use hrt_base::{Begun, Host, NoMemory, Port, WriteEnd};
-use promotion_heuristic::promote;
-use proof_lines::Claim;
 use rank_tables::Instance;
 use stability_model::Model;
 use std::alloc::Global;
-
-// That no matching is larger than the ceiling, and one has so many pairs.
-fn found_claim(ceiling: u32, size: u32) -> Claim
-    ensures { result ≡ found_claim ceiling size }
-{
-    Claim::Bounds {
-        lower: Some(-i128::from(ceiling)),
-        upper: Some(-i128::from(size)),
-    }
-}
 
 // A proof of the bound and of the first matching, which was not sent yet.
 fn quick_proof<'a>(alloc: Global, model: &Model<'a>) -> Result<(Derivation<'a>, SolveEnd), NoMemory>
     ensures said { IfOk result (λ made. IsQuickEnd model.now made.1) }
     ensures proof { IfOk result (λ made. IsProof model.now made.0.pending (found_claim made.1.ceiling (length made.1.pairs.items)) made.1.conflicts) }
 {
-    let inst = model.instance();
     let mut deriv = Derivation::new(alloc, model)?;
-    let gauged = gauge(alloc, inst, model, &mut deriv)?;
-    let pairs = promote(alloc, inst)?;
-    let larger = log(alloc, model, &pairs, &mut deriv)?;
-    let size = pairs.len() as u32;
-    close(alloc, model, gauged, size, larger, &mut deriv)?;
-    deriv.conclude(alloc, model, found_claim(gauged.end.ceiling, size))?;
-    let end = SolveEnd {
-        deleted: gauged.end.deleted,
-        ceiling: gauged.end.ceiling,
-        first: size,
-        conflicts: 0,
-        pairs,
-        best: size == gauged.end.ceiling,
-    };
+    let started = start(alloc, model, &mut deriv)?;
+    let end = conclude_first(alloc, model, started, &mut deriv)?;
     Ok((deriv, end))
 }
 

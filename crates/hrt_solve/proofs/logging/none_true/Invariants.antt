@@ -1,5 +1,0 @@
-use Rattle.std.proofs.Common.{◌≡◌, false, replicate}
-use Rattle.hrt_solve.proofs.logging.none_true.Given as goal
-
-abbrev pub invariant-loop : goal.invariant-loop
-invariant-loop l = l.point.items ≡ replicate l.counter false

@@ -11,13 +11,12 @@ use Rattle.hrt_base.specs.World.{World, Content, appended, put, sealed, started}
 use Rattle.rank_tables.specs.Instance.{Lists}
 use Rattle.opb_text.specs.Spelling.{model_text}
 use Rattle.promotion_heuristic.specs.Promotion.{promotion}
-use Rattle.hrt_solve.specs.declared.ends.BoundEnd.{BoundEnd}
 use Rattle.hrt_solve.specs.declared.ends.SolveEnd.{SolveEnd}
-use Rattle.hrt_solve.specs.Gauged.{bound_claim, found_claim}
-use Rattle.hrt_solve.specs.Writing.{IsBounded, IsProof, IsSolvedQuickly, SentBoth, SentFrontBehind, StopsWriting}
+use Rattle.hrt_solve.specs.Gauged.{found_claim}
+use Rattle.hrt_solve.specs.Writing.{IsProof, IsSolvedQuickly, SentBoth, SentFrontBehind, StopsWriting}
 use Rattle.hrt_cli.specs.Outputs.{Output, both, output, text_on}
 use Rattle.hrt_cli.specs.Outcomes.{first_claim}
-use Rattle.hrt_cli.specs.Writing.{AreBegun, IsWritten, SavesInPart, SavesProof, Writes, WritesAll, WritesFronts, WritesNothing}
+use Rattle.hrt_cli.specs.Writing.{AreBegun, IsWritten, SavesBoth, SavesInPart, Writes, WritesAll, WritesFronts, WritesNothing}
 
 -- ---- ports
 
@@ -357,14 +356,8 @@ written_whole told name proof lists text w v u are sent =
       writers = λ p writing. sealed_writers w.begun p (sym (ap (λ (f : Port → Begun). f p) begun) ∙ writing);
     }
 
-pub bound_saved : (told : Type 0) (lists : Lists) (end : BoundEnd) (name proof : List ℕ) (w v u : World) → AreBegun told name proof w v → IsBounded told lists end v u
-    → SavesProof told (bound_claim end.ceiling) lists end.deleted end.ceiling name proof w u
-bound_saved told lists end name proof w v u are bounded = record {
-  text = bounded.proof.text;
-  numbers = bounded.numbers;
-  is_proof = bounded.proof.is_proof;
-  saved = written_whole told name proof lists bounded.proof.text w v u are bounded.proof.sent;
-}
+pub both_saved : (told : Type 0) (Is : List ℕ → Type 0) (lists : Lists) (name proof text : List ℕ) (w v u : World) → AreBegun told name proof w v → Is text → SentBoth told lists text v u → SavesBoth told Is lists name proof w u
+both_saved told Is lists name proof text w v u are is sent = record { text = text; is = is; saved = written_whole told name proof lists text w v u are sent }
 
 -- the listed pairs are the promotion's, and no row was learned
 first_proof : (lists : Lists) (text : List ℕ) (top size learned : ℕ) → size ≡ length (promotion lists) → learned ≡ 0 → IsProof lists text (found_claim top size) learned → IsProof lists text (first_claim lists top) 0
@@ -372,13 +365,9 @@ first_proof lists text top size learned e f proof =
     subst (λ (n : ℕ). IsProof lists text (found_claim top n) 0) e (subst (λ (n : ℕ). IsProof lists text (found_claim top size) n) f proof)
 
 pub match_saved : (told : Type 0) (lists : Lists) (end : SolveEnd) (name proof : List ℕ) (w v u : World) → AreBegun told name proof w v → IsSolvedQuickly told lists end v u
-    → SavesProof told (first_claim lists end.ceiling) lists end.deleted end.ceiling name proof w u
+    → SavesBoth told (λ text. IsProof lists text (first_claim lists end.ceiling) 0) lists name proof w u
 match_saved told lists end name proof w v u are solved =
     let said = solved.said in
     let size : length end.pairs.items ≡ length (promotion lists) = sym (length-map end.pairs.items (λ (p : PairNo). p.0)) ∙ ap length said.pairs_are in
-    record {
-      text = solved.proof.text;
-      numbers = said.numbers;
-      is_proof = first_proof lists solved.proof.text end.ceiling (length end.pairs.items) end.conflicts size said.conflicts_are solved.proof.is_proof;
-      saved = written_whole told name proof lists solved.proof.text w v u are solved.proof.sent;
-    }
+    both_saved told (λ text. IsProof lists text (first_claim lists end.ceiling) 0) lists name proof solved.proof.text w v u are
+    (first_proof lists solved.proof.text end.ceiling (length end.pairs.items) end.conflicts size said.conflicts_are solved.proof.is_proof) solved.proof.sent

@@ -13,9 +13,9 @@ use Rattle.hrt_cli.specs.declared.status.Status.TheVariants.{Done, Misused, Inst
 use Rattle.hrt_cli.specs.declared.stop.Ended.{Ended}
 use Rattle.hrt_cli.specs.declared.stop.Ended.TheVariants.{ReadFault, WriteFault, NoMemory}
 use Rattle.hrt_cli.specs.Answers.{IsCutShort, LeavesFronts, SendsDue, SendsNothing}
-use Rattle.hrt_cli.specs.Outcomes.{ComesTo, IsReport, OnRead, Outcome, Due}
+use Rattle.hrt_cli.specs.Outcomes.{ComesTo, OnRead, Outcome}
 use Rattle.hrt_cli.specs.Outputs.{Output, SendsAll, files_after, outputs_of, outputs_with}
-use Rattle.hrt_cli.specs.Plans.{AreTaken, Files, Named, Plan, Value, is_named, plan_of}
+use Rattle.hrt_cli.specs.Plans.{AreTaken, Files, Named, Plan, Value, is_determined, is_named, plan_of}
 use Rattle.hrt_cli.specs.Requests.{Request}
 use Rattle.hrt_cli.specs.Runs.{EndsAs, Finishes, IsComplete, IsDecided, IsDue, IsReported, NoRise, KeepsFiles, KeepsOtherFiles, has_report, is_code_of, keeps_files}
 use Rattle.hrt_cli.specs.Statuses.{code_of, early_code_of, exit_code, is_code_among, is_told_of, statuses_of}
@@ -102,25 +102,26 @@ module _ (told : Type 0) (request : Option Request) (old new : World) where
       subst (λ (q : Option Request). IsDecided q n old new) asks (subst (λ (k : ℕ). IsDecided request k old new) here (decided e ends t (ap has_report here ∙ has)))
 
   -- without a rise of the counts of faults there is a report, or memory was wanting
-  reported_or : (e : Result Status Ended) → EndsAs told request e old new → told → NoRise old new → IsDecided request (exit_code e) old new ⊎ (exit_code e ≡ 6)
+  pub reported_or : (e : Result Status Ended) → EndsAs told request e old new → told → NoRise old new → IsDecided request (exit_code e) old new ⊎ (exit_code e ≡ 6)
   reported_or (Ok status) ends t none = inl (record { status = status; code = refl; reported = ends.reported t })
   reported_or (Err ReadFault) ends t none = absurd (none.unread ends.ends.rose)
   reported_or (Err WriteFault) ends t none = absurd (none.unwritten ends.ends.rose)
   reported_or (Err NoMemory) ends t none = inr refl
 
   -- the report that was sent is that of whatever the words and the files come to
-  due_reported : (n : ℕ) → IsDecided request n old new → (due : Outcome) → ComesTo (plan_of request) old.content.file due → (n ≡ code_of due.status) × IsReport due.report (new.content.sent Report)
-  due_reported n is due comes =
+  due_reported : (n : ℕ) → IsTrue (is_determined (plan_of request).job) → IsDecided request n old new → (due : Outcome) → ComesTo (plan_of request) old.content.file due
+      → (n ≡ code_of due.status) × (new.content.sent Report ≡ due.report)
+  due_reported n determined is due comes =
       let told_of = is.reported in
-      let alike = one_told (plan_of request) old.content.file told_of.outcome due told_of.due comes in
-      (is.code ∙ ap code_of (told_of.answered ∙ alike.status), subst (λ (d : Due). IsReport d (new.content.sent Report)) alike.report told_of.report)
+      let alike = one_told (plan_of request) determined old.content.file told_of.outcome due told_of.due comes in
+      (is.code ∙ ap code_of (told_of.answered ∙ alike.status), told_of.report ∙ alike.report)
 
   pub due : (e : Result Status Ended) → EndsAs told request e old new → told → IsDue request (exit_code e) old new
-  due e ends t determined out comes has = due_reported (exit_code e) (decided e ends t has) out comes
+  due e ends t determined out comes has = due_reported (exit_code e) determined (decided e ends t has) out comes
 
   pub complete : (e : Result Status Ended) → EndsAs told request e old new → told → IsComplete request (exit_code e) old new
   complete e ends t determined none out comes = elim (reported_or e ends t none) [
-    | inl is ↦ inl (due_reported (exit_code e) is out comes).0
+    | inl is ↦ inl (due_reported (exit_code e) determined is out comes).0
     | inr wanting ↦ inr wanting
   ]
 
@@ -227,9 +228,9 @@ kept_left request old new left name e = by left.sends
     by : SendsNothing old.content new.content ⊎ SendsDue request old.content new.content → new.content.file name ≡ old.content.file name
     by (inl nothing) = nothing.files name
     by (inr parts) =
-        let outputs : List Output = outputs_of request parts.outcome.texts in
+        let outputs : List Output = outputs_of request parts.texts in
         parts.sends.files name
-        ∙ kept_else (take parts.sends.whole outputs) old.content.file name (none_of_first parts.sends.whole outputs name (unnamed (plan_of request).outputs parts.outcome.texts name e))
+        ∙ kept_else (take parts.sends.whole outputs) old.content.file name (none_of_first parts.sends.whole outputs name (unnamed (plan_of request).outputs parts.texts name e))
 
 kept_sent : (request : Option Request) (texts : List (List ℕ)) (old new : World) → SendsAll (outputs_of request texts) old.content new.content → KeepsOtherFiles request old.content new.content
 kept_sent request texts old new sends name e = sends.files name ∙ kept_else (outputs_of request texts) old.content.file name (unnamed (plan_of request).outputs texts name e)

@@ -12,6 +12,7 @@ mod PrintedAudits
 mod PrintedBounds
 mod PrintedClaims
 mod PrintedModels
+mod PrintedSearches
 mod ProofWriters
 mod Reading
 mod Runs

@@ -1,7 +1,7 @@
 -- What loading one input of a command comes to, whatever it is read as.
 use Rattle.std.proofs.Common.{◌≡◌, ◌⊎◌, ℕ, List, [], ◌∷◌, Option, Some, Result, Ok, Err, IfSome, IsTrue, refl, sym, ◌∙◌, ap, subst, inl, inr}
 use Rattle.std.specs.Prelude.{IsSomeAnd}
-use Rattle.hrt_base.specs.declared.port.Port.TheVariants.{Instance, Pairs, Model, Proof}
+use Rattle.hrt_base.specs.declared.port.Port.TheVariants.{Pairs, Model, Proof}
 use Rattle.hrt_base.specs.declared.host.Begun.TheVariants.{Reading}
 use Rattle.hrt_base.specs.Calls.{Rose}
 use Rattle.hrt_base.specs.World.{World, Content, put, with_rest}
@@ -20,9 +20,9 @@ use Rattle.hrt_inputs.specs.Limits.{most}
 use Rattle.hrt_inputs.specs.Loading.{ArePairsLoaded, FailedToRead, IsLoaded, IsNotTaken, IsRead, StopsLoading, StopsLoadingPairs}
 use Rattle.hrt_inputs.specs.Proofs.{IsProofJudged, StopsProof}
 use Rattle.hrt_inputs.specs.Rejections.{Rejection, exceeded, proof_refused, truncated}
-use Rattle.hrt_inputs.specs.Taken.{formula_in, pairs_in}
+use Rattle.hrt_inputs.specs.Taken.{formula_in, pairs_in, taken_lists}
 use Rattle.hrt_cli.specs.Answers.{PassedAt, rejection_of}
-use Rattle.hrt_cli.specs.Plans.{Input, Reads, ReadsProof, Value, as_value, claim, formula, formula_among, input, instance, judged_as, listed, lists, lists_within, model, pairs, proof}
+use Rattle.hrt_cli.specs.Plans.{Input, Reads, ReadsProof, Value, as_value, claim, formula, formula_among, input, instance_in, judged_as, listed, lists, model, pairs, proof}
 use Rattle.hrt_cli.specs.Reports.{rejection_by}
 use Rattle.hrt_cli.specs.Statuses.{code_of, is_code_among, refusals_of, rejection_status}
 
@@ -86,29 +86,26 @@ wanting told i before old new is = record { only_read = is; fault = λ e. absurd
 
 -- ---- instances
 
-abbrev instance_by : Limit → List ℕ → Input
-instance_by limit_on name = input Instance (instance limit_on) name
+pub takes_instance : (told : Type 0) (name : List ℕ) (before : List Value) (l : Lists) (old new : World) → IsLoaded told name l old new → TakesInput told (instance_in name) before (lists l) old new
+takes_instance told name before l old new loaded = takes told (instance_in name) before limit.InstanceBytes taken_lists lists (λ bytes r e. e) refl l old new loaded
 
-pub takes_instance : (told : Type 0) (limit_on : Limit) (name : List ℕ) (before : List Value) (l : Lists) (old new : World) → IsLoaded told name limit_on l old new → TakesInput told (instance_by limit_on name) before (lists l) old new
-takes_instance told limit_on name before l old new loaded = takes told (instance_by limit_on name) before limit.InstanceBytes (lists_within limit_on) lists (λ bytes r e. e) refl l old new loaded
-
-pub stops_instance : (told : Type 0) (limit_on : Limit) (name : List ℕ) (before : List Value) (stop : Stop) (old new : World) → StopsLoading told name limit_on stop old new
-    → StopsInput told (instance_by limit_on name) before stop old new
-stops_instance told limit_on name before (Refused kind line) old new not = record {
+pub stops_instance : (told : Type 0) (name : List ℕ) (before : List Value) (stop : Stop) (old new : World) → StopsLoading told name stop old new
+    → StopsInput told (instance_in name) before stop old new
+stops_instance told name before (Refused kind line) old new not = record {
   only_read = not.only_read;
   fault = λ e. absurd (cc);
-  rejects = refuses told (instance_by limit_on name) before limit.InstanceBytes (lists_within limit_on) lists (λ bytes r e. e) refl _ old new refl not;
+  rejects = refuses told (instance_in name) before limit.InstanceBytes taken_lists lists (λ bytes r e. e) refl _ old new refl not;
 }
-stops_instance told limit_on name before (Exceeded what) old new not = record {
+stops_instance told name before (Exceeded what) old new not = record {
   only_read = not.only_read;
   fault = λ e. absurd (cc);
-  rejects = refuses told (instance_by limit_on name) before limit.InstanceBytes (lists_within limit_on) lists (λ bytes r e. e) refl (exceeded what) old new refl not;
+  rejects = refuses told (instance_in name) before limit.InstanceBytes taken_lists lists (λ bytes r e. e) refl (exceeded what) old new refl not;
 }
-stops_instance told limit_on name before (PairsRefused kind line) old new not = absurd not
-stops_instance told limit_on name before (ModelRefused kind line) old new not = absurd not
-stops_instance told limit_on name before (ProofRefused refusal) old new not = absurd not
-stops_instance told limit_on name before ReadFault old new not = failed told (instance_by limit_on name) before old new not
-stops_instance told limit_on name before NoMemory old new not = wanting told (instance_by limit_on name) before old new not
+stops_instance told name before (PairsRefused kind line) old new not = absurd not
+stops_instance told name before (ModelRefused kind line) old new not = absurd not
+stops_instance told name before (ProofRefused refusal) old new not = absurd not
+stops_instance told name before ReadFault old new not = failed told (instance_in name) before old new not
+stops_instance told name before NoMemory old new not = wanting told (instance_in name) before old new not
 
 -- ---- pairs
 

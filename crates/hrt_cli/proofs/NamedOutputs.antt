@@ -1,10 +1,10 @@
 -- What the words say of the names of outputs.
-use Rattle.std.proofs.Common.{◌≡◌, ◌&&◌, ◌==◌, ℕ, Bool, true, false, not, cond, bytes_eq, codes, List, [], ◌∷◌, length, Option, Some, None, option_map, refl, sym, subst, arith}
+use Rattle.std.proofs.Common.{◌≡◌, ◌&&◌, ◌==◌, ℕ, Bool, true, false, not, cond, bytes_eq, codes, List, [], ◌∷◌, length, Option, Some, None, option_and_then, option_map, refl, sym, subst, arith}
 use Rattle.std.proofs.lemmas.Bool.{and_parts}
 use Rattle.std.proofs.lemmas.Bool.Decides.{nat_tests}
 use Rattle.hrt_base.specs.World.{store}
 use Rattle.hrt_text.proofs.Among.{bytes_eq-same}
-use Rattle.hrt_cli.specs.Requests.{Request, ThreeFiles, TwoFiles, audit, bound, check, is_file_name, model, one_file, quick, request_of, solve, three, three_files, two, two_files, verify}
+use Rattle.hrt_cli.specs.Requests.{Request, ThreeFiles, TwoFiles, audit, bound, check, budget_of, is_file_name, model, quick, request_of, solve, solve_of, three, three_files, three_names, two, two_files, verify}
 use Rattle.hrt_cli.specs.Plans.{Files}
 
 -- ---- good names
@@ -18,7 +18,7 @@ pub record AreApart (name proof : List ℕ) : Type 0 where
 -- the outputs of a request have good names
 abbrev pub AreNamed : Option Request → Type 0
 AreNamed None = Unit {0}
-AreNamed (Some (solve instance)) = Unit {0}
+AreNamed (Some (solve instance file proof budget)) = AreApart file proof
 AreNamed (Some (audit instance pairs)) = Unit {0}
 AreNamed (Some (model instance file)) = is_file_name file ≡ true
 AreNamed (Some (verify instance proof)) = Unit {0}
@@ -60,11 +60,14 @@ tests_apart x y z e =
     let second = and_parts (is_file_name x) (is_file_name y) third.0 in
     record { named = second.1; proof_named = third.1; apart = not_false (bytes_eq y z) all.1 }
 
+names_apart : (x y z : List ℕ) (f : ThreeFiles) → three_names x y z ≡ Some f → AreApart f.second f.third
+names_apart x y z f e = let is = three_of _ x y z f e in subst (λ (g : ThreeFiles). AreApart g.second g.third) is.1 (tests_apart x y z is.0)
+
 three_named : (files : List (List ℕ)) (f : ThreeFiles) → three_files files ≡ Some f → AreApart f.second f.third
 three_named [] f e = absurd (cc)
 three_named (x ∷ []) f e = absurd (cc)
 three_named (x ∷ y ∷ []) f e = absurd (cc)
-three_named (x ∷ y ∷ z ∷ []) f e = let is = three_of _ x y z f e in subst (λ (g : ThreeFiles). AreApart g.second g.third) is.1 (tests_apart x y z is.0)
+three_named (x ∷ y ∷ z ∷ []) f e = names_apart x y z f e
 three_named (x ∷ y ∷ z ∷ w ∷ files) f e = absurd (cc)
 
 -- ---- the words
@@ -72,10 +75,6 @@ three_named (x ∷ y ∷ z ∷ w ∷ files) f e = absurd (cc)
 either_named : (b : Bool) (r s : Option Request) → AreNamed r → AreNamed s → AreNamed (cond b r s)
 either_named true r s first second = first
 either_named false r s first second = second
-
-asked_one : (files : Option (List ℕ)) → AreNamed (option_map solve files)
-asked_one None = tt
-asked_one (Some f) = tt
 
 asked_two : (ask : TwoFiles → Request) (files : Option TwoFiles) → ((f : TwoFiles) → files ≡ Some f → AreNamed (Some (ask f))) → AreNamed (option_map ask files)
 asked_two ask None good = tt
@@ -85,10 +84,21 @@ asked_three : (ask : ThreeFiles → Request) (files : Option ThreeFiles) → ((f
 asked_three ask None good = tt
 asked_three ask (Some f) good = good f refl
 
+asked_solve : (words : List (List ℕ)) → AreNamed (solve_of words)
+asked_solve [] = tt
+asked_solve (x ∷ []) = tt
+asked_solve (x ∷ y ∷ []) = tt
+asked_solve (x ∷ y ∷ z ∷ options) = by (three_names x y z) refl (budget_of options)
+  where
+    by : (files : Option ThreeFiles) → three_names x y z ≡ files → (budget : Option ℕ) → AreNamed (option_and_then (λ f. option_map (solve f.first f.second f.third) budget) files)
+    by None e budget = tt
+    by (Some f) e None = tt
+    by (Some f) e (Some budget) = names_apart x y z f e
+
 pub outputs_named : (texts : List (List ℕ)) → AreNamed (request_of texts)
 outputs_named [] = tt
 outputs_named (word ∷ files) =
-    either_named (bytes_eq word (codes "solve")) _ _ (asked_one (one_file files))
+    either_named (bytes_eq word (codes "solve")) _ _ (asked_solve files)
     (either_named (bytes_eq word (codes "audit")) _ _ (asked_two (λ f. audit f.first f.second) (two_files files) (λ f e. tt))
     (either_named (bytes_eq word (codes "model")) _ _ (asked_two (λ f. model f.first f.second) (two_files files) (two_named files))
     (either_named (bytes_eq word (codes "verify")) _ _ (asked_two (λ f. verify f.first f.second) (two_files files) (λ f e. tt))

@@ -16,9 +16,10 @@ use Rattle.hrt_solve.specs.Gauged.{AreNumbersOf, bound_claim}
 use Rattle.hrt_inputs.specs.Rejections.{Rejection}
 use Rattle.hrt_inputs.specs.Taken.{pairs_in}
 use Rattle.hrt_cli.specs.declared.status.Status.TheVariants.{Done, AuditNo, Bounded}
-use Rattle.hrt_cli.specs.Outcomes.{Comes, ComesTo, Listed, OnRead, Outcome, ProofDue, Due, audited, bounded, checked, claim_of, first_claim, matched, modeled, pairs_of, solved, verified}
-use Rattle.hrt_cli.specs.Plans.{Files, Input, IsJudgedAs, Job, Kind, Plan, Reads, ReadsProof, ReadsTo, Value, as_value, formula_among, judged_as, listed, lists_of}
+use Rattle.hrt_cli.specs.Outcomes.{Comes, ComesTo, Listed, OnRead, Outcome, ProofDue, SolveDue, audited, bounded, checked, claim_of, first_claim, matched, modeled, pairs_of, solved, verified}
+use Rattle.hrt_cli.specs.Plans.{Files, Input, IsJudgedAs, Job, Kind, Plan, Reads, ReadsProof, ReadsTo, Value, as_value, formula_among, is_determined, judged_as, listed, lists_of}
 use Rattle.hrt_cli.specs.Plans as plan
+use Rattle.hrt_cli.specs.Reports.{finding_of}
 use Rattle.hrt_cli.specs.Runs.{keeps_files}
 use Rattle.hrt_cli.specs.Statuses.{code_of, is_code_among, statuses_of}
 use Rattle.hrt_cli.proofs.Inputs.{GoesOn, StopsAt, apart, err_is, ok_is}
@@ -39,7 +40,7 @@ one_proof f bytes a b (inr first) (inr second) = one_judged f bytes a b first se
 
 -- bytes are read in one way
 one_read : (kind : Kind) (before : List Value) (bytes : List ℕ) (a b : Result Value Rejection) → Reads kind before bytes a → Reads kind before bytes b → a ≡ b
-one_read (plan.instance limit) before bytes a b first second = first ∙ sym second
+one_read plan.instance before bytes a b first second = first ∙ sym second
 one_read plan.model before bytes a b first second = first ∙ sym second
 one_read plan.pairs before bytes a b first second = by (lists_of before) first second
   where
@@ -120,26 +121,26 @@ one_of : {A : Type 0} (o : Option A) (due : A → Outcome) (a b : Outcome) → I
 one_of o due a b first second = on_some o (λ x out. out ≡ due x) a b (λ x u v. same_alike (due x) a b u v) first second
 
 -- a job whose outcomes are told alike, case by case
-one_outcome : (job : Job) (values : List Value) (a b : Outcome) → Comes job values a → Comes job values b → AreAlike a b
-one_outcome plan.explain values a b first second = same_alike _ a b first second
-one_outcome plan.solve values a b first second = one_of (lists_of values) solved a b first second
-one_outcome plan.audit values a b first second = one_of (pairs_of values) (λ (read : Listed). audited read.lists read.pairs) a b first second
-one_outcome plan.model values a b first second = one_of (lists_of values) modeled a b first second
-one_outcome plan.verify values a b first second = one_of (claim_of values) verified a b first second
-one_outcome plan.check values a b first second = one_of (claim_of values) checked a b first second
-one_outcome plan.bound values a b first second =
+one_outcome : (job : Job) (values : List Value) (a b : Outcome) → IsTrue (is_determined job) → Comes job values a → Comes job values b → AreAlike a b
+one_outcome plan.explain values a b determined first second = same_alike _ a b first second
+one_outcome (plan.solve budget) values a b determined first second = absurd (cc)
+one_outcome plan.audit values a b determined first second = one_of (pairs_of values) (λ (read : Listed). audited read.lists read.pairs) a b first second
+one_outcome plan.model values a b determined first second = one_of (lists_of values) modeled a b first second
+one_outcome plan.verify values a b determined first second = one_of (claim_of values) verified a b first second
+one_outcome plan.check values a b determined first second = one_of (claim_of values) checked a b first second
+one_outcome plan.bound values a b determined first second =
     on_some (lists_of values) (λ l out. ProofDue bound_claim (bounded l) l out) a b (λ l x y. one_due bound_claim (bounded l) l a b (λ d t u v. record { status = refl; report = refl }) x y) first second
-one_outcome plan.quick values a b first second =
+one_outcome plan.quick values a b determined first second =
     on_some (lists_of values) (λ l out. ProofDue (first_claim l) (matched l) l out) a b (λ l x y. one_due (first_claim l) (matched l) l a b (λ d t u v. record { status = refl; report = refl }) x y) first second
 
 -- what a command and the files come to is told alike
-pub one_told : (command : Plan) (files : Files) (a b : Outcome) → ComesTo command files a → ComesTo command files b → AreAlike a b
-one_told command files a b first second =
+pub one_told : (command : Plan) → IsTrue (is_determined command.job) → (files : Files) (a b : Outcome) → ComesTo command files a → ComesTo command files b → AreAlike a b
+one_told command determined files a b first second =
     by first.read first.comes (subst (λ (r : Result (List Value) Rejection). OnRead command.job r b) (sym (reads_once command.inputs files [] first.read second.read first.reads second.reads)) second.comes)
   where
     by : (r : Result (List Value) Rejection) → OnRead command.job r a → OnRead command.job r b → AreAlike a b
     by (Err rejection) x y = same_alike _ a b x y
-    by (Ok values) x y = one_outcome command.job values a b x y
+    by (Ok values) x y = one_outcome command.job values a b determined x y
 
 -- ---- the status of a job
 
@@ -156,18 +157,24 @@ of_some : {A : Type 0} (o : Option A) (Due : A → Type 0) (job : Job) (due : Ou
 of_some None Due job due is found = absurd found
 of_some (Some x) Due job due is found = is x found
 
-audit_of_job : (b : Bool) (report : Due) → IsOfJob plan.audit (record { status = cond b Done AuditNo; report = report; texts = [] })
+audit_of_job : (b : Bool) (report : List ℕ) → IsOfJob plan.audit (record { status = cond b Done AuditNo; report = report; texts = [] })
 audit_of_job true report = record { status = refl; unwritten = λ e. refl }
 audit_of_job false report = record { status = refl; unwritten = λ e. refl }
 
-quick_of_job : (b : Bool) (report : Due) (texts : List (List ℕ)) → IsOfJob plan.quick (record { status = cond b Done Bounded; report = report; texts = texts })
+quick_of_job : (b : Bool) (report : List ℕ) (texts : List (List ℕ)) → IsOfJob plan.quick (record { status = cond b Done Bounded; report = report; texts = texts })
 quick_of_job true report texts = record { status = refl; unwritten = λ e. absurd (cc) }
 quick_of_job false report texts = record { status = refl; unwritten = λ e. absurd (cc) }
+
+solve_of_job : (budget : ℕ) (b : Bool) (report : List ℕ) (texts : List (List ℕ)) → IsOfJob (plan.solve budget) (record { status = cond b Done Bounded; report = report; texts = texts })
+solve_of_job budget true report texts = record { status = refl; unwritten = λ e. absurd (cc) }
+solve_of_job budget false report texts = record { status = refl; unwritten = λ e. absurd (cc) }
 
 -- what a job comes to, case by case
 pub of_job : (job : Job) (values : List Value) (due : Outcome) → Comes job values due → IsOfJob job due
 of_job plan.explain values due is = as_this plan.explain due _ is (record { status = refl; unwritten = λ e. refl })
-of_job plan.solve values due is = of_some (lists_of values) (λ l. due ≡ solved l) plan.solve due (λ l e. as_this plan.solve due (solved l) e (record { status = refl; unwritten = λ e. refl })) is
+of_job (plan.solve budget) values due is =
+    of_some (lists_of values) (λ l. SolveDue l budget due) (plan.solve budget) due
+    (λ l e. as_this (plan.solve budget) due (solved l (finding_of e.end) e.end.best e.text) e.is (solve_of_job budget e.end.best _ _)) is
 of_job plan.audit values due is =
     of_some (pairs_of values) (λ (read : Listed). due ≡ audited read.lists read.pairs) plan.audit due
     (λ read e. as_this plan.audit due (audited read.lists read.pairs) e (audit_of_job (is_weakly_stable read.lists read.pairs) _)) is

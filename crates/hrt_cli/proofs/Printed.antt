@@ -1,19 +1,17 @@
 -- What a run has read that is told by no refusal.
 use Rattle.std.proofs.Common.{◌≡◌, ◌==◌, ◌||◌, ℕ, Bool, true, false, List, [], ◌∷◌, Option, Some, Result, Ok, Err, refl, sym, ◌∙◌, ap, subst}
-use Rattle.hrt_base.specs.declared.port.Port.TheVariants.{Instance, Report}
+use Rattle.hrt_base.specs.declared.port.Port.TheVariants.{Report}
 use Rattle.hrt_base.specs.World.{World}
 use Rattle.rank_tables.specs.Instance.{Lists}
 use Rattle.hrt_reader.specs.Accepted.{Spells}
-use Rattle.hrt_inputs.specs.declared.limit.Limit.{Limit}
-use Rattle.hrt_inputs.specs.declared.limit.Limit.TheVariants.{TriedPairs}
 use Rattle.hrt_inputs.specs.Rejections.{Rejection, refused, exceeded, pairs_refused, model_refused, proof_refused, truncated}
-use Rattle.hrt_inputs.specs.Taken.{lists_in, within}
-use Rattle.hrt_inputs.proofs.ReadInstances.{of_terms, of_within, spelled}
-use Rattle.hrt_cli.specs.Outcomes.{Comes, IsReport, OnRead, Outcome, solved}
+use Rattle.hrt_inputs.specs.Taken.{taken_lists}
+use Rattle.hrt_inputs.proofs.ReadInstances.{taken_spelled}
+use Rattle.hrt_cli.specs.Outcomes.{Comes, OnRead, Outcome}
 use Rattle.hrt_cli.specs.Outputs.{SendsAll, outputs_of}
-use Rattle.hrt_cli.specs.Plans.{Files, Input, ReadsTo, Value, as_value, input, instance, lists, lists_within, plan_of}
-use Rattle.hrt_cli.specs.Requests.{Request, solve}
-use Rattle.hrt_cli.specs.Runs.{IsDecided, PrintsBest}
+use Rattle.hrt_cli.specs.Plans.{Files, Input, ReadsTo, Value, as_value, instance_in, lists, plan_of}
+use Rattle.hrt_cli.specs.Requests.{Request}
+use Rattle.hrt_cli.specs.Runs.{IsDecided}
 use Rattle.hrt_cli.specs.Statuses.{code_of, rejection_status}
 use Rattle.hrt_cli.proofs.Inputs.{ok_is, takes_first}
 
@@ -36,7 +34,7 @@ pub record IsDone (request : Option Request) (n : ℕ) (old new : World) : Type 
   pub outcome : Outcome
   pub comes : Comes (plan_of request).job values outcome
   pub code : n ≡ code_of outcome.status
-  pub report : IsReport outcome.report (new.content.sent Report)
+  pub report : new.content.sent Report ≡ outcome.report
   pub sends : SendsAll (outputs_of request outcome.texts) old.content new.content
 
 pub done : (request : Option Request) (n : ℕ) (old new : World) → is_refusal n ≡ false → IsDecided request n old new → IsDone request n old new
@@ -74,16 +72,15 @@ pub record HasInstance (name : List ℕ) (rest : List Input) (files : Files) (va
   pub spelled : Spells bytes lists_are
   pub reads : ReadsTo rest files (lists lists_are ∷ []) (Ok values)
 
-pub has_instance : (limit : Limit) (name : List ℕ) (rest : List Input) (files : Files) (values : List Value) → ReadsTo (input Instance (instance limit) name ∷ rest) files [] (Ok values)
-    → HasInstance name rest files values
-has_instance limit name rest files values reads =
-    let first = takes_first (input Instance (instance limit) name) rest files [] values reads in
-    let is = value_of lists (lists_within limit first.bytes) first.value first.reads in
+pub has_instance : (name : List ℕ) (rest : List Input) (files : Files) (values : List Value) → ReadsTo (instance_in name ∷ rest) files [] (Ok values) → HasInstance name rest files values
+has_instance name rest files values reads =
+    let first = takes_first (instance_in name) rest files [] values reads in
+    let is = value_of lists (taken_lists first.bytes) first.value first.reads in
     record {
       bytes = first.bytes;
       file = first.file;
       lists_are = is.0;
-      spelled = spelled first.bytes is.0 (of_within limit (lists_in first.bytes) is.0 (of_terms (within limit (lists_in first.bytes)) is.0 is.1));
+      spelled = taken_spelled first.bytes is.0 is.1;
       reads = subst (λ (v : Value). ReadsTo rest files (v ∷ []) (Ok values)) is.2 first.rest;
     }
 
@@ -95,10 +92,10 @@ pub record OnInstance (request : Option Request) (name : List ℕ) (files : File
   pub spelled : Spells bytes lists_are
   pub comes : Comes (plan_of request).job (lists lists_are ∷ []) due
 
-pub on_instance : (request : Option Request) (limit : Limit) (name : List ℕ) (n : ℕ) (old new : World) → (plan_of request).inputs ≡ input Instance (instance limit) name ∷ [] → (run : IsDone request n old new)
+pub on_instance : (request : Option Request) (name : List ℕ) (n : ℕ) (old new : World) → (plan_of request).inputs ≡ instance_in name ∷ [] → (run : IsDone request n old new)
     → OnInstance request name old.content.file run.outcome
-on_instance request limit name n old new is run =
-    let found = has_instance limit name [] old.content.file run.values (subst (λ (inputs : List Input). ReadsTo inputs old.content.file [] (Ok run.values)) is run.reads) in
+on_instance request name n old new is run =
+    let found = has_instance name [] old.content.file run.values (subst (λ (inputs : List Input). ReadsTo inputs old.content.file [] (Ok run.values)) is run.reads) in
     record {
       bytes = found.bytes;
       file = found.file;
@@ -108,23 +105,5 @@ on_instance request limit name n old new is run =
     }
 
 -- what is reported of an outcome that is this one
-pub reported_as : (due this : Outcome) (text : List ℕ) → due ≡ this → IsReport due.report text → IsReport this.report text
-reported_as due this text e is = subst (λ (o : Outcome). IsReport o.report text) e is
-
--- ---- the printed pairs
-
-pub best : (i : List ℕ) (old new : World) → IsDecided (Some (solve i)) 0 old new → PrintsBest i old.content new.content
-best i old new is =
-    let run = done (Some (solve i)) 0 old new refl is in
-    let found = on_instance (Some (solve i)) TriedPairs i 0 old new refl run in
-    let report = reported_as run.outcome (solved found.lists_are) (new.content.sent Report) found.comes run.report in
-    record {
-      bytes = found.bytes;
-      file = found.file;
-      lists = found.lists_are;
-      spelled = found.spelled;
-      pairs = report.pairs;
-      best = report.best;
-      rising = report.rising;
-      report = report.is_report;
-    }
+pub reported_as : (due this : Outcome) (text : List ℕ) → due ≡ this → text ≡ due.report → text ≡ this.report
+reported_as due this text e is = is ∙ ap (λ (o : Outcome). o.report) e

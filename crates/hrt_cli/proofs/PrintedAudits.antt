@@ -4,7 +4,6 @@ use Rattle.hrt_base.specs.declared.port.Port.TheVariants.{Pairs, Report}
 use Rattle.hrt_base.specs.World.{World}
 use Rattle.rank_tables.specs.Instance.{Lists}
 use Rattle.rank_tables.specs.Stability.{is_weakly_stable}
-use Rattle.hrt_inputs.specs.declared.limit.Limit.TheVariants as limit
 use Rattle.hrt_inputs.specs.Rejections.{Rejection}
 use Rattle.hrt_inputs.specs.Taken.{pairs_in}
 use Rattle.hrt_inputs.proofs.ReadPairs.{pairs_spelled}
@@ -53,7 +52,7 @@ comes_with_report n (inr e) = ap has_report e
 pub audits : (i q : List ℕ) (n : ℕ) (old new : World) → (n ≡ 0) ⊎ (n ≡ 9) → IsDecided (Some (audit i q)) n old new → PrintsAudit i q (n == 0) old.content new.content
 audits i q n old new e is =
     let run = done (Some (audit i q)) n old new (not_refusal n e) is in
-    let found = has_instance limit.Pairs i (input Pairs pairs q ∷ []) old.content.file run.values run.reads in
+    let found = has_instance i (input Pairs pairs q ∷ []) old.content.file run.values run.reads in
     let l = found.lists_are in
     let next = has_pairs l q old.content.file run.values found.reads in
     let due : run.outcome ≡ audited l next.numbers = subst (λ (values : List Value). Comes plan.audit values run.outcome) next.values_are run.comes in

@@ -15,22 +15,20 @@ use Rattle.proof_lines.specs.declared.line.Claim.{Claim}
 use Rattle.proof_rules.proofs.Matchings.{verified_bounds}
 use Rattle.hrt_solve.specs.Gauged.{IsMost, bound_claim, value_of}
 use Rattle.hrt_solve.specs.Writing.{IsProof}
-use Rattle.hrt_inputs.specs.declared.limit.Limit.TheVariants as limit
 use Rattle.hrt_cli.specs.declared.status.Status.TheVariants.{Done, Bounded}
 use Rattle.hrt_cli.specs.Outcomes.{Outcome, bounded, first_claim, matched}
 use Rattle.hrt_cli.specs.Outputs.{SendsAll, both, outputs_of}
 use Rattle.hrt_cli.specs.Reports.{count_line, last_line, line}
 use Rattle.hrt_cli.specs.Requests.{bound, quick}
-use Rattle.hrt_cli.specs.Runs.{IsDecided, PrintsBound, PrintsMatching, PrintsMet, PrintsOpen, WritesProofOf}
+use Rattle.hrt_cli.specs.Runs.{IsDecided, PrintsBound, PrintsMatching, PrintsMet, PrintsOpen, WritesBoth, WritesProofOf}
 use Rattle.hrt_cli.specs.Statuses.{code_of}
 use Rattle.hrt_cli.proofs.NamedOutputs.{AreApart, not_stored, stored}
 use Rattle.hrt_cli.proofs.Printed.{done, is_refusal, on_instance, reported_as}
 
 -- ---- the files
 
-written_proof : (lists : Lists) (text : List ℕ) (claim : Claim) (m p : List ℕ) (old new : World) → AreApart m p → IsProof lists text claim 0 → SendsAll (both m p lists text) old.content new.content
-    → WritesProofOf lists claim m p new.content
-written_proof lists text claim m p old new names is_proof sends =
+pub written_both : (lists : Lists) (Is : List ℕ → Type 0) (text m p : List ℕ) (old new : World) → AreApart m p → Is text → SendsAll (both m p lists text) old.content new.content → WritesBoth lists Is m p new.content
+written_both lists Is text m p old new names is sends =
     let model : new.content.sent Model ≡ model_text lists = sends.sent Model (λ same. absurd (omega arith)) in
     let proof : new.content.sent Proof ≡ text = sends.sent Proof (λ same. absurd (omega arith)) in
     record {
@@ -39,8 +37,12 @@ written_proof lists text claim m p old new names is_proof sends =
           sends.files m ∙ not_stored p text (store m (model_text lists) old.content.file) m names.apart ∙ stored m (model_text lists) old.content.file names.named
           ∙ ap (λ (l : List ℕ). Some l) (sym model);
       proof_file = sends.files p ∙ stored p text (store m (model_text lists) old.content.file) names.proof_named ∙ ap (λ (l : List ℕ). Some l) (sym proof);
-      is_proof = subst (λ (l : List ℕ). IsProof lists l claim 0) (sym proof) is_proof;
+      is_proof = subst Is (sym proof) is;
     }
+
+written_proof : (lists : Lists) (text : List ℕ) (claim : Claim) (m p : List ℕ) (old new : World) → AreApart m p → IsProof lists text claim 0 → SendsAll (both m p lists text) old.content new.content
+    → WritesProofOf lists claim m p new.content
+written_proof lists text claim m p old new names is_proof sends = written_both lists (λ l. IsProof lists l claim 0) text m p old new names is_proof sends
 
 -- ---- the numbers
 
@@ -62,7 +64,7 @@ promoted_stable bytes lists spelled = promotion-stable lists (spelled_well_forme
 pub bound_printed : (i m p : List ℕ) (old new : World) → AreApart m p → IsDecided (Some (bound i m p)) 0 old new → PrintsBound i m p old.content new.content
 bound_printed i m p old new names is =
     let run = done (Some (bound i m p)) 0 old new refl is in
-    let found = on_instance (Some (bound i m p)) limit.Pairs i 0 old new refl run in
+    let found = on_instance (Some (bound i m p)) i 0 old new refl run in
     let l = found.lists_are in
     let due = found.comes in
     record {
@@ -85,13 +87,13 @@ bound_printed i m p old new names is =
 record IsPrinted (i m p : List ℕ) (n : ℕ) (old new : World) : Type 0 where
   lists_are : Lists
   top : ℕ
-  printed : PrintsMatching lists_are top (last_line (length (promotion lists_are)) top) i m p old.content new.content
+  printed : PrintsMatching lists_are top (last_line (length (promotion lists_are) == top) top) i m p old.content new.content
   code : n ≡ code_of (cond (length (promotion lists_are) == top) Done Bounded)
 
 is_printed : (i m p : List ℕ) (n : ℕ) (old new : World) → AreApart m p → is_refusal n ≡ false → IsDecided (Some (quick i m p)) n old new → IsPrinted i m p n old new
 is_printed i m p n old new names other is =
     let run = done (Some (quick i m p)) n old new other is in
-    let found = on_instance (Some (quick i m p)) limit.Pairs i n old new refl run in
+    let found = on_instance (Some (quick i m p)) i n old new refl run in
     let l = found.lists_are in
     let due = found.comes in
     record {
@@ -113,11 +115,11 @@ is_printed i m p n old new names other is =
     }
 
 -- as large as the ceiling, by the code
-met_by : (b : Bool) → code_of (cond b Done Bounded) ≡ 0 → b ≡ true
+pub met_by : (b : Bool) → code_of (cond b Done Bounded) ≡ 0 → b ≡ true
 met_by true e = refl
 met_by false e = absurd (cc)
 
-open_by : (b : Bool) → code_of (cond b Done Bounded) ≡ 10 → b ≡ false
+pub open_by : (b : Bool) → code_of (cond b Done Bounded) ≡ 10 → b ≡ false
 open_by true e = absurd (cc)
 open_by false e = refl
 
@@ -128,7 +130,7 @@ met i m p old new names run =
     let top = is.top in
     let same : (length (promotion l) == top) ≡ true = met_by (length (promotion l) == top) (sym is.code) in
     let met : top ≡ length (promotion l) = sym (eqb-true (length (promotion l)) top same) in
-    let last : last_line (length (promotion l)) top ≡ line (codes "best") = ap (λ (b : Bool). cond b (line (codes "best")) (count_line (codes "at most") top)) same in
+    let last : last_line (length (promotion l) == top) top ≡ line (codes "best") = ap (λ (b : Bool). last_line b top) same in
     record {
       lists = l;
       printed =
@@ -152,7 +154,7 @@ open_printed i m p old new names run =
     let l = is.lists_are in
     let top = is.top in
     let apart : (length (promotion l) == top) ≡ false = open_by (length (promotion l) == top) (sym is.code) in
-    let last : last_line (length (promotion l)) top ≡ count_line (codes "at most") top = ap (λ (b : Bool). cond b (line (codes "best")) (count_line (codes "at most") top)) apart in
+    let last : last_line (length (promotion l) == top) top ≡ count_line (codes "at most") top = ap (λ (b : Bool). last_line b top) apart in
     record {
       lists = l;
       top = top;

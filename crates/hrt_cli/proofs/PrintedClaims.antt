@@ -4,7 +4,10 @@ use Rattle.hrt_base.specs.declared.port.Port.TheVariants.{Model, Proof, Report}
 use Rattle.hrt_base.specs.World.{World}
 use Rattle.rank_tables.specs.Instance.{Lists}
 use Rattle.rank_tables.specs.Stability.{is_weakly_stable}
-use Rattle.plain_enumeration.proofs.Existence.{stable_exists}
+use Rattle.hrt_reader.specs.Accepted.{Spells}
+use Rattle.hrt_reader.proofs.Unrefused.{spelled_well_formed}
+use Rattle.promotion_heuristic.proofs.Stable.{promotion-stable}
+use Rattle.promotion_heuristic.specs.Promotion.{promotion}
 use Rattle.pb_rows.specs.Formula.{Formula}
 use Rattle.stability_model.specs.Model.{formula as formula_of}
 use Rattle.opb_text.specs.Refusal.{Spells as SpellsFormula, lines_of}
@@ -17,7 +20,6 @@ use Rattle.proof_rules.specs.Texts as text
 use Rattle.proof_rules.specs.Texts.{IsValidText}
 use Rattle.proof_rules.proofs.Matchings.{all_rise, verified_bounds}
 use Rattle.proof_rules.proofs.Verdicts.{texts_sound}
-use Rattle.hrt_inputs.specs.declared.limit.Limit.TheVariants as limit
 use Rattle.hrt_inputs.specs.Rejections.{Rejection}
 use Rattle.hrt_inputs.specs.Taken.{formula_in}
 use Rattle.hrt_inputs.proofs.ReadModels.{model_spelled}
@@ -84,25 +86,25 @@ one_as_large lists None h = tt
 one_as_large lists (Some u) h = h
 
 -- that there is no weakly stable matching is claimed of no instance
-true_sizes : (lists : Lists) (claim : Claim) (text : List ℕ) → SaysOfMatchings lists claim → text ≡ verify_report claim → PrintsTrueSizes lists text
-true_sizes lists (Bounds l u) text says is = record {
+true_sizes : (bytes : List ℕ) (lists : Lists) (claim : Claim) (text : List ℕ) → Spells bytes lists → SaysOfMatchings lists claim → text ≡ verify_report claim → PrintsTrueSizes lists text
+true_sizes bytes lists (Bounds l u) text spelled says is = record {
   bound = option_map neg_ℤ l;
   found = option_map neg_ℤ u;
   report = is;
   most = none_larger lists l says.0;
   some = one_as_large lists u says.1;
 }
-true_sizes lists Unsat text says is = let some = stable_exists lists in absurd (says some.0 some.1)
-true_sizes lists Nothing text says is = record { bound = None; found = None; report = is; most = tt; some = tt }
+true_sizes bytes lists Unsat text spelled says is = absurd (says (promotion lists) (promotion-stable lists (spelled_well_formed bytes lists spelled)))
+true_sizes bytes lists Nothing text spelled says is = record { bound = None; found = None; report = is; most = tt; some = tt }
 
 pub sizes : (i p : List ℕ) (old new : World) → IsDecided (Some (verify i p)) 0 old new → PrintsSizes i old.content new.content
 sizes i p old new is =
     let run = done (Some (verify i p)) 0 old new refl is in
-    let found = has_instance limit.Pairs i (input Proof proof p ∷ []) old.content.file run.values run.reads in
+    let found = has_instance i (input Proof proof p ∷ []) old.content.file run.values run.reads in
     let l = found.lists_are in
     let proved = has_proof (plan.lists l) (formula_of l) p old.content.file run.values (λ bytes value reads. reads) found.reads in
     let due : run.outcome ≡ verified proved.says = subst (λ (values : List Value). Comes plan.verify values run.outcome) proved.values_are run.comes in
-    let sizes = true_sizes l proved.says (new.content.sent Report) (verified_bounds l proved.bytes proved.says proved.valid)
+    let sizes = true_sizes found.bytes l proved.says (new.content.sent Report) found.spelled (verified_bounds l proved.bytes proved.says proved.valid)
     (reported_as run.outcome (verified proved.says) (new.content.sent Report) due run.report) in
     record {
       bytes = found.bytes;

@@ -7,13 +7,11 @@ use Rattle.hrt_base.specs.Calls.{AtStart}
 use Rattle.hrt_base.specs.World.{World, Content, port_no, with_rest}
 use Rattle.hrt_base.proofs.Pieces.{port_no-injective, put_here}
 use Rattle.rank_tables.specs.Instance.{Lists}
-use Rattle.hrt_inputs.specs.declared.limit.Limit.{Limit}
 use Rattle.hrt_inputs.specs.Inputs.{IsAt, KeepsPorts, OnlyRead, but_for_rest}
 use Rattle.hrt_inputs.specs.Loading.{IsLoaded}
 use Rattle.hrt_inputs.proofs.KeptPorts.{keeps_all, keeps_fewer, keeps_then, put_at_others}
 use Rattle.hrt_inputs.proofs.Ports.{put_elsewhere}
-use Rattle.hrt_cli.specs.Plans.{Input, IsInputPort, IsReadPort, ReadsTo, Value, input, instance, lists}
-use Rattle.hrt_base.specs.declared.port.Port.TheVariants.{Instance}
+use Rattle.hrt_cli.specs.Plans.{Input, IsInputPort, IsReadPort, ReadsTo, Value, instance_in, lists}
 use Rattle.hrt_cli.proofs.BegunPorts.{stands_after}
 use Rattle.hrt_cli.proofs.Inputs.{input_of_more, input_port, read_port, read_port_of_more, reads_on}
 use Rattle.hrt_cli.proofs.Loads.{TakesInput, takes_instance}
@@ -89,7 +87,6 @@ has_read_next told inputs values i value old mid new read next = record {
     }
 
 -- the instance was read
-pub has_read_instance : (told : Type 0) (most : Limit) (name : List ℕ) (l : Lists) (old new : World) → AtStart told old → IsLoaded told name most l old new
-    → HasRead told (input Instance (instance most) name ∷ []) (lists l ∷ []) old new
-has_read_instance told most name l old new start loaded =
-    has_read_next told [] [] (input Instance (instance most) name) (lists l) old old new (has_read_none told old start) (takes_instance told most name [] l old new loaded)
+pub has_read_instance : (told : Type 0) (name : List ℕ) (l : Lists) (old new : World) → AtStart told old → IsLoaded told name l old new → HasRead told (instance_in name ∷ []) (lists l ∷ []) old new
+has_read_instance told name l old new start loaded =
+    has_read_next told [] [] (instance_in name) (lists l) old old new (has_read_none told old start) (takes_instance told name [] l old new loaded)

@@ -25,7 +25,7 @@ use Rattle.hrt_cli.specs.Requests.{Request}
 use Rattle.hrt_cli.specs.declared.stop.Ended.{Ended}
 use Rattle.hrt_cli.specs.declared.stop.Ended.TheVariants.{WriteFault}
 use Rattle.hrt_cli.specs.Runs.{GivenUp, Reported}
-use Rattle.hrt_cli.specs.Outcomes.{ComesTo, IsReport, misused}
+use Rattle.hrt_cli.specs.Outcomes.{ComesTo, misused}
 
 -- ---- ports
 
@@ -139,7 +139,7 @@ whole_reported told request answer old mid new worked sent asked = record {
     outcome = due.outcome;
     due = due.due;
     answered = due.answered.status;
-    report = subst (IsReport due.outcome.report) (sym (whole_text told answer.report mid new due.silent sent t)) due.answered.report;
+    report = whole_text told answer.report mid new due.silent sent t ∙ due.answered.report;
     read_out = whole_read_out told answer.report mid new due.due.read sent t due.read_out;
     sends = whole_sends told answer.report (outputs_of request due.outcome.texts) old mid new due.sends due.unnamed sent t;
   };
@@ -178,10 +178,8 @@ cut_short told request answer old mid new worked part = record { understood = λ
           inr (record {
             outcome = due.outcome;
             due = due.due;
-            text = answer.report;
-            report = due.answered.report;
             count = part.part.0;
-            front = part_text told (take part.part.0 answer.report) mid new due.silent part.part.1 t;
+            front = part_text told (take part.part.0 answer.report) mid new due.silent part.part.1 t ∙ ap (take part.part.0) due.answered.report;
             read_out = part_read_out told (take part.part.0 answer.report) mid new due.due.read part.part.1 t due.read_out;
             sends = sends;
           });
@@ -228,10 +226,8 @@ misused_cut told text old new start is part = record { understood = λ e. refl; 
           inr (record {
             outcome = misused;
             due = asks_nothing old.content.file;
-            text = text;
-            report = is;
             count = part.part.0;
-            front = part_text told (take part.part.0 text) old new (start.sent t Report) part.part.1 t;
+            front = part_text told (take part.part.0 text) old new (start.sent t Report) part.part.1 t ∙ ap (take part.part.0) is;
             read_out = part_read_out told (take part.part.0 text) old new (Ok []) part.part.1 t (λ p reading. absurd (reads_nothing told old start p reading));
             sends = sends;
           });

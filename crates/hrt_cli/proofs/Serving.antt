@@ -19,7 +19,7 @@ use Rattle.hrt_cli.specs.declared.status.Status.{Status}
 use Rattle.hrt_cli.specs.declared.stop.Ended.{Ended}
 use Rattle.hrt_cli.specs.declared.stop.Ended.TheVariants as ended
 use Rattle.hrt_cli.specs.Answers.{EndsEarly, EndsFor, Explains, IsAnswer, IsWorked, LeavesFronts, PassedAt, Serves, rejection_of}
-use Rattle.hrt_cli.specs.Outcomes.{Comes, ComesTo, Outcome, rejected}
+use Rattle.hrt_cli.specs.Outcomes.{AreTexts, Comes, ComesTo, Outcome, rejected}
 use Rattle.hrt_cli.specs.Outputs.{Output, files_after, outputs_of, outputs_with}
 use Rattle.hrt_cli.specs.Plans.{AreSome, AreTaken, Files, Input, IsInputPort, IsReadPort, IsWritePort, Named, ReadsTo, Value, plan_of}
 use Rattle.hrt_cli.specs.Ports.{BeginsWriting, IsPortOf}
@@ -151,11 +151,11 @@ pub record IsFinished (told : Type 0) (request : Option Request) (values : List 
   pub answered : IsAnswer outcome answer
   pub writes : WritesAll told (outputs_of request outcome.texts) mid new
 
--- fronts were written of what the job comes to
+-- fronts were written of texts that the job writes
 pub record WritesPart (told : Type 0) (request : Option Request) (values : List Value) (mid new : World) : Type 0 where
-  pub outcome : Outcome
-  pub comes : Comes (plan_of request).job values outcome
-  pub fronts : WritesFronts told (outputs_of request outcome.texts) mid new
+  pub texts : List (List ℕ)
+  pub are : AreTexts (plan_of request).job values texts
+  pub fronts : WritesFronts told (outputs_of request texts) mid new
 
 -- nothing was written, or fronts
 abbrev pub IsInPart : (told : Type 0) → Option Request → List Value → World → World → Type 0
@@ -220,8 +220,8 @@ module _ (told : Type 0) (request : Option Request) (values : List Value) (old m
   left (inr part) t = record {
     silent = sent_now _ _ part.fronts.writes t;
     sends = inr (record {
-      outcome = part.outcome;
-      due = comes_to part.outcome part.comes t;
+      texts = part.texts;
+      due = record { values = values; reads = read.reads t; are = part.are };
       sends = record {
         whole = part.fronts.whole;
         count = part.fronts.count;
@@ -301,10 +301,10 @@ answered told request values due r old mid read comes suits none is wants =
 -- ---- a command whose outputs are known before they are written
 
 pub wrote : (told : Type 0) (request : Option Request) (values : List Value) (due : Outcome) (r : Result Answer Ended) (old mid new : World) → HasRead told (plan_of request).inputs values old mid
-    → Comes (plan_of request).job values due → IsTrue (is_told_of request (code_of due.status)) → AreSome (plan_of request).outputs → BeginsWriting (IsWritePort (plan_of request).outputs) mid new
+    → Comes (plan_of request).job values due → AreTexts (plan_of request).job values due.texts → IsTrue (is_told_of request (code_of due.status)) → AreSome (plan_of request).outputs → BeginsWriting (IsWritePort (plan_of request).outputs) mid new
     → KeepsPorts told (IsWritePort (plan_of request).outputs) mid new → IfOk r (IsAnswer due) → OnOk r (WritesAll told (outputs_of request due.texts) mid new)
     → IfErr r (λ why. EndsWriting told (outputs_of request due.texts) why mid new) → Serves told request r old new
-wrote told request values due r old mid new read comes suits some begins keeps is saved up = served told request values old mid new read r begins keeps (ok r is saved) (err r up)
+wrote told request values due r old mid new read comes are suits some begins keeps is saved up = served told request values old mid new read r begins keeps (ok r is saved) (err r up)
   where
     ok : (x : Result Answer Ended) → IfOk x (IsAnswer due) → OnOk x (WritesAll told (outputs_of request due.texts) mid new) → IfOk x (λ answer. IsFinished told request values answer mid new)
     ok (Ok answer) answered writes = record { outcome = due; comes = comes; suits = suits; answered = answered; writes = writes }
@@ -312,7 +312,7 @@ wrote told request values due r old mid new read comes suits some begins keeps i
 
     part : WritesInPart told (outputs_of request due.texts) mid new → IsInPart told request values mid new
     part (inl nothing) = inl nothing
-    part (inr fronts) = inr (record { outcome = due; comes = comes; fronts = fronts })
+    part (inr fronts) = inr (record { texts = due.texts; are = are; fronts = fronts })
 
     err : (x : Result Answer Ended) → IfErr x (λ why. EndsWriting told (outputs_of request due.texts) why mid new) → IfErr x (λ why. IsGivenUp told request values why mid new)
     err (Ok answer) ends = tt

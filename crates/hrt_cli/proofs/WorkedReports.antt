@@ -1,13 +1,12 @@
 -- Reports on an instance worked by hand, and on what is refused.
-use Rattle.std.specs.Prelude.{◌≡◌, ℕ, List, [], ◌∷◌, ◌++◌, flat_map, codes, negsuc, Some, None, refl}
+use Rattle.std.specs.Prelude.{◌≡◌, ℕ, true, false, List, [], ◌∷◌, ◌++◌, flat_map, codes, negsuc, Some, None, refl}
 use Rattle.std.specs.Fmt.{digits}
 use Rattle.rank_tables.specs.Instance.{Lists}
 use Rattle.stability_audit.specs.Verdict.{verdict_of}
 use Rattle.proof_lines.specs.declared.line.Claim.TheVariants.{Bounds, Nothing}
 use Rattle.proof_rules.specs.Refusals.{BadId, NotASolution, WrongCount}
-use Rattle.promotion_heuristic.specs.Promotion.{promotion}
-use Rattle.hrt_inputs.specs.declared.limit.Limit.TheVariants.{InstanceBytes, TriedPairs, Terms, ProofBytes}
-use Rattle.hrt_cli.specs.Reports.{audit_report, bound_report, check_report, limit_line, model_report, proof_refusal_report, quick_report, solve_report, verify_report}
+use Rattle.hrt_inputs.specs.declared.limit.Limit.TheVariants.{InstanceBytes, Terms, ProofBytes}
+use Rattle.hrt_cli.specs.Reports.{audit_report, bound_report, check_report, first_finding, limit_line, match_report, model_report, proof_refusal_report, verify_report}
 
 -- lines, each with its line feed
 abbrev lined : List (List ℕ) → List ℕ
@@ -25,21 +24,22 @@ tied = record {
 abbrev counts : List (List ℕ)
 counts = codes "residents 2" ∷ codes "hospitals 2" ∷ codes "pairs 3" ∷ codes "one-sided 0" ∷ []
 
-solved : solve_report tied (2 ∷ 3 ∷ []) ≡ lined (counts ++ codes "pair a y" ∷ codes "pair b x" ∷ codes "size 2" ∷ codes "best" ∷ [])
-unfolding digits
-solved = refl
-
 bounded : bound_report tied 0 2 ≡ lined (counts ++ codes "deleted 0" ∷ codes "ceiling 2" ∷ codes "at most 2" ∷ [])
 unfolding digits
 bounded = refl
 
-met : quick_report tied 0 2 (promotion tied) ≡ lined (counts ++ codes "deleted 0" ∷ codes "ceiling 2" ∷ codes "first 2" ∷ codes "conflicts 0" ∷ codes "pair a y" ∷ codes "pair b x" ∷ codes "size 2" ∷ codes "best" ∷ [])
+met : match_report tied (first_finding tied 0 2) true ≡ lined (counts ++ codes "deleted 0" ∷ codes "ceiling 2" ∷ codes "first 2" ∷ codes "conflicts 0" ∷ codes "pair a y" ∷ codes "pair b x" ∷ codes "size 2" ∷ codes "best" ∷ [])
 unfolding digits
 met = refl
 
-open_still : quick_report tied 0 3 (promotion tied) ≡ lined (counts ++ codes "deleted 0" ∷ codes "ceiling 3" ∷ codes "first 2" ∷ codes "conflicts 0" ∷ codes "pair a y" ∷ codes "pair b x" ∷ codes "size 2" ∷ codes "at most 3" ∷ [])
+open_still : match_report tied (first_finding tied 0 3) false ≡ lined (counts ++ codes "deleted 0" ∷ codes "ceiling 3" ∷ codes "first 2" ∷ codes "conflicts 0" ∷ codes "pair a y" ∷ codes "pair b x" ∷ codes "size 2" ∷ codes "at most 3" ∷ [])
 unfolding digits
 open_still = refl
+
+-- with a budget of 5 that was spent
+spent : match_report tied (record { deleted = 0; top = 3; first = 1; conflicts = 5; pairs = 2 ∷ 3 ∷ [] }) false ≡ lined (counts ++ codes "deleted 0" ∷ codes "ceiling 3" ∷ codes "first 1" ∷ codes "conflicts 5" ∷ codes "pair a y" ∷ codes "pair b x" ∷ codes "size 2" ∷ codes "at most 3" ∷ [])
+unfolding digits
+spent = refl
 
 modeled : model_report tied ≡ lined (codes "variables 3" ∷ codes "rows 7" ∷ [])
 unfolding digits
@@ -94,10 +94,6 @@ refused_count = refl
 too_many_bytes : limit_line InstanceBytes ≡ lined (codes "limit instance-bytes 67108864" ∷ [])
 unfolding digits
 too_many_bytes = refl
-
-too_many_tried : limit_line TriedPairs ≡ lined (codes "limit pairs 12" ∷ [])
-unfolding digits
-too_many_tried = refl
 
 too_many_terms : limit_line Terms ≡ lined (codes "limit terms 8000000" ∷ [])
 unfolding digits

@@ -14,7 +14,7 @@ use Rattle.hrt_inputs.specs.Rejections.{Rejection, refused, exceeded, pairs_refu
 use Rattle.hrt_cli.specs.declared.answer.Answer.{Answer}
 use Rattle.hrt_cli.specs.declared.stop.Ended.{Ended}
 use Rattle.hrt_cli.specs.declared.stop.Ended.TheVariants as ended
-use Rattle.hrt_cli.specs.Outcomes.{IsReport, Outcome, ComesTo, rejected}
+use Rattle.hrt_cli.specs.Outcomes.{HasTexts, Outcome, ComesTo, rejected}
 use Rattle.hrt_cli.specs.Outputs.{SendsAll, SendsFronts, outputs_of}
 use Rattle.hrt_cli.specs.Plans.{AreSome, AreTaken, Files, Value, plan_of}
 use Rattle.hrt_cli.specs.Ports.{KeepsOtherPorts, ReadsInputs, WritesOutputs}
@@ -27,7 +27,7 @@ use Rattle.hrt_cli.specs.Statuses.{code_of, is_told_of}
 -- the status and the report that are due
 pub record IsAnswer (due : Outcome) (answer : Answer) : Type 0 where
   pub status : answer.status ≡ due.status
-  pub report : IsReport due.report answer.report
+  pub report : answer.report ≡ due.report
 
 -- what is told of a file for a stop, if anything is
 abbrev pub rejection_of : Stop → Option Rejection
@@ -93,11 +93,11 @@ pub record SendsNothing (old new : Content) : Type 0 where
   pub sent : (port : Port) → new.sent port ≡ []
   pub files : (name : List ℕ) → new.file name ≡ old.file name
 
--- fronts of the outputs were sent of what the words and the files come to
+-- fronts were sent of outputs that the command writes
 pub record SendsDue (request : Option Request) (old new : Content) : Type 0 where
-  pub outcome : Outcome
-  pub due : ComesTo (plan_of request) old.file outcome
-  pub sends : SendsFronts (outputs_of request outcome.texts) old new
+  pub texts : List (List ℕ)
+  pub due : HasTexts (plan_of request) old.file texts
+  pub sends : SendsFronts (outputs_of request texts) old new
 
 -- nothing was sent, or fronts of the outputs, and no byte of the report
 pub record LeavesFronts (request : Option Request) (old new : Content) : Type 0 where
@@ -118,10 +118,8 @@ pub record IsCutBefore (request : Option Request) (old new : World) : Type 0 whe
 pub record IsCutAtReport (request : Option Request) (old new : World) : Type 0 where
   pub outcome : Outcome
   pub due : ComesTo (plan_of request) old.content.file outcome
-  pub text : List ℕ
-  pub report : IsReport outcome.report text
   pub count : ℕ
-  pub front : new.content.sent Report ≡ take count text
+  pub front : new.content.sent Report ≡ take count outcome.report
   pub read_out : IsReadOut due.read new
   pub sends : SendsAll (outputs_of request outcome.texts) old.content new.content
 

@@ -1,4 +1,5 @@
 pub mod Answers
+pub mod Budgets
 pub mod Outcomes
 pub mod Outputs
 pub mod Plans

@@ -1,5 +1,5 @@
 -- What a command reads and writes: its inputs in the order of reading, its outputs in the order of writing, and its job.
-use Rattle.std.specs.Prelude.{◌≡◌, ◌⊎◌, ◌<◌, ◌≤◌, ℕ, Bool, true, List, [], ◌∷◌, ◌++◌, length, Option, Some, None, IsSomeAnd, Result, Ok, Err, bytes_eq}
+use Rattle.std.specs.Prelude.{◌≡◌, ◌⊎◌, ◌<◌, ◌≤◌, ℕ, Bool, true, false, List, [], ◌∷◌, ◌++◌, length, Option, Some, None, IsSomeAnd, Result, Ok, Err, bytes_eq}
 use Rattle.std.specs.List.{list_any}
 use Rattle.hrt_base.specs.declared.port.Port.{Port}
 use Rattle.hrt_base.specs.declared.port.Port.TheVariants.{Instance, Pairs, Model, Proof}
@@ -9,12 +9,10 @@ use Rattle.stability_model.specs.Model.{formula as formula_of}
 use Rattle.proof_lines.specs.declared.line.Claim.{Claim}
 use Rattle.proof_rules.specs.Texts as text
 use Rattle.proof_rules.specs.Texts.{HasVerdict}
-use Rattle.hrt_inputs.specs.declared.limit.Limit.{Limit}
-use Rattle.hrt_inputs.specs.declared.limit.Limit.TheVariants.{ProofBytes, TriedPairs}
-use Rattle.hrt_inputs.specs.declared.limit.Limit.TheVariants as limit
+use Rattle.hrt_inputs.specs.declared.limit.Limit.TheVariants.{ProofBytes}
 use Rattle.hrt_inputs.specs.Limits.{most}
 use Rattle.hrt_inputs.specs.Rejections.{Rejection, exceeded, proof_refused, truncated}
-use Rattle.hrt_inputs.specs.Taken.{formula_in, lists_in, of_few_terms, pairs_in, within}
+use Rattle.hrt_inputs.specs.Taken.{formula_in, pairs_in, taken_lists}
 use Rattle.hrt_cli.specs.Requests as ask
 use Rattle.hrt_cli.specs.Requests.{Request}
 
@@ -26,7 +24,7 @@ Files = List ℕ → Option (List ℕ)
 
 -- as what the bytes of a file are read
 pub data Kind : Type 0 where
-  instance : Limit → Kind  -- an instance, with at most so many pairs
+  instance : Kind
   pairs : Kind  -- pairs of the instance before
   model : Kind  -- a formula
   proof : Kind  -- a proof for the formula before, or for the model of the instance before
@@ -53,7 +51,7 @@ to_file port name = record { port = port; name = name }
 -- what is to be done with what was read
 pub data Job : Type 0 where
   explain : Job  -- tell that the words ask for nothing
-  solve : Job
+  solve : ℕ → Job  -- with at most so many rows learned
   audit : Job
   model : Job
   verify : Job
@@ -61,11 +59,10 @@ pub data Job : Type 0 where
   bound : Job
   quick : Job
 
--- the words and the files determine what the job comes to, but for the text of a proof and for which of some best matchings is
--- printed
+-- The words and the files determine what the job comes to, but for the text of a proof. Which matching a solve finds is left open.
 abbrev pub is_determined : Job → Bool
 is_determined explain = true
-is_determined solve = true
+is_determined (solve budget) = false
 is_determined audit = true
 is_determined model = true
 is_determined verify = true
@@ -83,14 +80,14 @@ pub record Plan : Type 0 where
 abbrev pub model_and_proof : List ℕ → List ℕ → List Named
 model_and_proof name other = to_file Model name ∷ to_file Proof other ∷ []
 
--- the instance in this file, with as many pairs as are taken
+-- the instance in this file
 abbrev pub instance_in : List ℕ → Input
-instance_in name = input Instance (instance limit.Pairs) name
+instance_in name = input Instance instance name
 
 -- what a command reads and writes, and what it does
 abbrev pub plan_of : Option Request → Plan
 plan_of None = record { inputs = []; outputs = []; job = explain }
-plan_of (Some (ask.solve name)) = record { inputs = input Instance (instance TriedPairs) name ∷ []; outputs = []; job = solve }
+plan_of (Some (ask.solve name file proof_name budget)) = record { inputs = instance_in name ∷ []; outputs = model_and_proof file proof_name; job = solve budget }
 plan_of (Some (ask.audit name pairs_name)) = record { inputs = instance_in name ∷ input Pairs pairs pairs_name ∷ []; outputs = []; job = audit }
 plan_of (Some (ask.model name file)) = record { inputs = instance_in name ∷ []; outputs = to_file Model file ∷ []; job = model }
 plan_of (Some (ask.verify name proof_name)) = record { inputs = instance_in name ∷ input Proof proof proof_name ∷ []; outputs = []; job = verify }
@@ -111,10 +108,6 @@ pub data Value : Type 0 where
 abbrev pub as_value : {A : Type 0} → (A → Value) → Result A Rejection → Result Value Rejection
 as_value value (Err rejection) = Err rejection
 as_value value (Ok read) = Ok (value read)
-
--- the lists of an instance with at most so many pairs, or why it isn't taken
-abbrev pub lists_within : Limit → List ℕ → Result Lists Rejection
-lists_within limit bytes = of_few_terms (within limit (lists_in bytes))
 
 -- what the verdict on a proof says
 abbrev pub judged_as : text.Verdict → Result Value Rejection
@@ -146,7 +139,7 @@ formula_among values = None
 
 -- what bytes are read as, behind these values
 abbrev pub Reads : Kind → List Value → List ℕ → Result Value Rejection → Type 0
-Reads (instance limit) before bytes read = read ≡ as_value lists (lists_within limit bytes)
+Reads instance before bytes read = read ≡ as_value lists (taken_lists bytes)
 Reads pairs before bytes read = IsSomeAnd (lists_of before) (λ l. read ≡ as_value listed (pairs_in l bytes))
 Reads model before bytes read = read ≡ as_value formula (formula_in bytes)
 Reads proof before bytes read = IsSomeAnd (formula_among before) (λ f. ReadsProof f bytes read)

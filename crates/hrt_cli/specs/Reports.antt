@@ -1,15 +1,14 @@
 -- The texts of reports. Each line ends with a line feed.
-use Rattle.std.specs.Prelude.{◌≡◌, ◌<◌, ℕ, ◌==◌, if◌then◌else◌, List, [], ◌∷◌, ◌++◌, length, flat_map, decimal, codes, ℤ, neg_ℤ, Option, Some, None, IsSomeAnd, option_map}
-use Rattle.std.specs.List.Sorted.{IsStrictlyIncreasing}
+use Rattle.std.specs.Prelude.{◌≡◌, ◌<◌, ℕ, ◌==◌, Bool, if◌then◌else◌, List, [], ◌∷◌, ◌++◌, length, flat_map, decimal, codes, ℤ, neg_ℤ, Option, Some, None, IsSomeAnd, option_map}
 use Rattle.rank_tables.specs.Instance.{Lists, pair_count, pair_at, one_sided}
 use Rattle.rank_tables.specs.WellFormed.{names_of_residents, names_of_hospitals}
-use Rattle.rank_tables.specs.Stability.{Best}
 use Rattle.rank_tables.specs.Tables.{IsPairNo, numbers_of}
 use Rattle.hrt_reader.specs.PairsText.{pair_text}
 use Rattle.hrt_reader.specs.Spelling.{name_at}
 use Rattle.stability_audit.specs.declared.verdict.Verdict.{Verdict as Audit}
 use Rattle.stability_audit.specs.declared.verdict.Verdict.TheVariants.{Stable, ResidentTwice, OverCapacity, Blocked}
 use Rattle.stability_model.specs.Model.{rows}
+use Rattle.promotion_heuristic.specs.Promotion.{promotion}
 use Rattle.proof_lines.specs.Texts.{bound_text}
 use Rattle.proof_lines.specs.declared.line.Claim.{Claim}
 use Rattle.proof_lines.specs.declared.line.Claim.TheVariants.{Bounds, Unsat, Nothing}
@@ -20,7 +19,7 @@ use Rattle.proof_checker.specs.declared.refusal.ProofRefusal.{ProofRefusal}
 use Rattle.proof_checker.specs.Answers.{refusal_verdict}
 use Rattle.hrt_solve.specs.declared.ends.SolveEnd.{SolveEnd}
 use Rattle.hrt_inputs.specs.declared.limit.Limit.{Limit}
-use Rattle.hrt_inputs.specs.declared.limit.Limit.TheVariants.{Residents, Hospitals, Pairs, TriedPairs, Terms, InstanceBytes, PairsBytes, ModelBytes, Variables, Rows, ProofBytes}
+use Rattle.hrt_inputs.specs.declared.limit.Limit.TheVariants.{Residents, Hospitals, Pairs, Terms, InstanceBytes, PairsBytes, ModelBytes, Variables, Rows, ProofBytes}
 use Rattle.hrt_inputs.specs.declared.stop.ModelKind.{ModelKind}
 use Rattle.hrt_inputs.specs.declared.stop.ModelKind.TheVariants.{Syntax, TooBig}
 use Rattle.hrt_inputs.specs.Limits.{most}
@@ -53,11 +52,6 @@ instance_lines lists =
     count_line (codes "residents") (length lists.residents) ++ count_line (codes "hospitals") (length lists.hospitals)
     ++ count_line (codes "pairs") (pair_count lists) ++ count_line (codes "one-sided") (one_sided lists)
 
--- the report on these pairs, which are best
-abbrev pub solve_report : Lists → List ℕ → List ℕ
-solve_report lists m =
-    instance_lines lists ++ flat_map (pair_line lists) m ++ count_line (codes "size") (length m) ++ line (codes "best")
-
 -- the lines on what is found before a matching is looked for
 abbrev pub bound_lines : Lists → ℕ → ℕ → List ℕ
 bound_lines lists deleted top = instance_lines lists ++ count_line (codes "deleted") deleted ++ count_line (codes "ceiling") top
@@ -66,28 +60,41 @@ bound_lines lists deleted top = instance_lines lists ++ count_line (codes "delet
 abbrev pub bound_report : Lists → ℕ → ℕ → List ℕ
 bound_report lists deleted top = bound_lines lists deleted top ++ count_line (codes "at most") top
 
--- the lines on a matching that was found without a search
-abbrev pub found_lines : Lists → List ℕ → List ℕ
-found_lines lists m =
-    count_line (codes "first") (length m) ++ count_line (codes "conflicts") 0 ++ flat_map (pair_line lists) m ++ count_line (codes "size") (length m)
+-- what is found of an instance: how many pairs are deleted, the ceiling, the size of the first matching, how many rows were learned, and the
+-- pairs of a matching by rising number
+pub record Finding : Type 0 where
+  pub deleted : ℕ
+  pub top : ℕ
+  pub first : ℕ
+  pub conflicts : ℕ
+  pub pairs : List ℕ
 
--- the same, as a job says it
-abbrev pub end_lines : Lists → SolveEnd → List ℕ
-end_lines lists end =
-    count_line (codes "first") end.first ++ count_line (codes "conflicts") end.conflicts ++ flat_map (pair_line lists) (numbers_of end.pairs.items)
-    ++ count_line (codes "size") end.first
+-- what a job found
+abbrev pub finding_of : SolveEnd → Finding
+finding_of end = record { deleted = end.deleted; top = end.ceiling; first = end.first; conflicts = end.conflicts; pairs = numbers_of end.pairs.items }
+
+-- what is found without a search
+abbrev pub first_finding : Lists → ℕ → ℕ → Finding
+first_finding lists deleted top =
+    record { deleted = deleted; top = top; first = length (promotion lists); conflicts = 0; pairs = promotion lists }
+
+-- the lines on the matching
+abbrev pub found_lines : Lists → Finding → List ℕ
+found_lines lists found =
+    count_line (codes "first") found.first ++ count_line (codes "conflicts") found.conflicts ++ flat_map (pair_line lists) found.pairs
+    ++ count_line (codes "size") (length found.pairs)
 
 -- all lines of the report on it but the last
-abbrev pub match_lines : Lists → ℕ → ℕ → List ℕ → List ℕ
-match_lines lists deleted top m = bound_lines lists deleted top ++ found_lines lists m
+abbrev pub match_lines : Lists → Finding → List ℕ
+match_lines lists found = bound_lines lists found.deleted found.top ++ found_lines lists found
 
--- `best` where the matching is as large as the ceiling, else the ceiling as the most pairs that a weakly stable matching has
-abbrev pub last_line : ℕ → ℕ → List ℕ
-last_line size top = if size == top then line (codes "best") else count_line (codes "at most") top
+-- `best` where no other matching is larger, else the ceiling as the most pairs that a weakly stable matching has
+abbrev pub last_line : Bool → ℕ → List ℕ
+last_line best top = if best then line (codes "best") else count_line (codes "at most") top
 
--- the report on a matching that was found without a search
-abbrev pub quick_report : Lists → ℕ → ℕ → List ℕ → List ℕ
-quick_report lists deleted top m = match_lines lists deleted top m ++ last_line (length m) top
+-- the report on a matching
+abbrev pub match_report : Lists → Finding → Bool → List ℕ
+match_report lists found best = match_lines lists found ++ last_line best found.top
 
 -- the word for a kind of refusal of pairs
 abbrev pub pairs_kind_word : ℕ → List ℕ
@@ -110,7 +117,6 @@ abbrev pub name_of : Limit → List ℕ
 name_of Residents = codes "residents"
 name_of Hospitals = codes "hospitals"
 name_of Pairs = codes "pairs"
-name_of TriedPairs = codes "pairs"
 name_of Terms = codes "terms"
 name_of InstanceBytes = codes "instance-bytes"
 name_of PairsBytes = codes "pairs-bytes"
@@ -190,13 +196,6 @@ NamesDeclared lists Stable = Unit {0}
 NamesDeclared lists (ResidentTwice r) = r < length lists.residents
 NamesDeclared lists (OverCapacity h) = h < length lists.hospitals
 NamesDeclared lists (Blocked p) = IsPairNo lists p.0
-
--- the text is the report on some best pairs of the instance, listed by rising number
-pub record IsSolveReport (lists : Lists) (text : List ℕ) : Type 0 where
-  pub pairs : List ℕ
-  pub best : Best lists pairs
-  pub rising : IsStrictlyIncreasing pairs
-  pub is_report : text ≡ solve_report lists pairs
 
 -- the report on a file that isn't taken
 abbrev pub rejection_report : Rejection → List ℕ

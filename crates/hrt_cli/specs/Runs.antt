@@ -1,5 +1,5 @@
 -- How a run ends, and what stands after it.
-use Rattle.std.specs.Prelude.{◌≡◌, ◌⊎◌, ◌<◌, ◌↔◌, ℕ, ◌==◌, ◌||◌, ◌&&◌, Bool, true, false, not, is_some, IsTrue, List, ◌++◌, length, codes, Option, Some, None, IfSome, Result, Ok, Err, ℤ, pos, ◌≤ℤ◌}
+use Rattle.std.specs.Prelude.{◌≡◌, ◌⊎◌, ◌<◌, ◌≤◌, ◌^◌, ◌↔◌, ℕ, ◌==◌, ◌||◌, ◌&&◌, Bool, true, false, not, is_some, IsTrue, List, ◌++◌, length, codes, Option, Some, None, IfSome, Result, Ok, Err, ℤ, pos, ◌≤ℤ◌}
 use Rattle.std.specs.List.Sorted.{IsStrictlyIncreasing}
 use Rattle.hrt_base.specs.declared.port.Port.{Port}
 use Rattle.hrt_base.specs.declared.port.Port.TheVariants.{Model, Proof, Report}
@@ -13,18 +13,20 @@ use Rattle.hrt_cli.specs.declared.stop.Ended.TheVariants.{WriteFault}
 use Rattle.hrt_cli.specs.Answers.{EndsEarly, IsReadOut}
 use Rattle.hrt_cli.specs.Outputs.{SendsAll, is_output_name, outputs_of}
 use Rattle.hrt_cli.specs.Plans.{AreTaken, is_determined, plan_of}
-use Rattle.hrt_cli.specs.Outcomes.{IsReport, Outcome, ComesTo}
-use Rattle.hrt_cli.specs.Reports.{audit_report, bound_report, check_report, count_line, line, match_lines, model_report, sizes_report, solve_report}
+use Rattle.hrt_cli.specs.Outcomes.{Outcome, ComesTo}
+use Rattle.hrt_cli.specs.Reports.{Finding, audit_report, bound_report, check_report, count_line, first_finding, line, match_lines, match_report, model_report, sizes_report}
 use Rattle.hrt_cli.specs.Requests.{Request}
 use Rattle.hrt_cli.specs.Statuses.{code_of, is_code_among, is_told_of, statuses_of}
-use Rattle.rank_tables.specs.Instance.{Lists}
+use Rattle.rank_tables.specs.Instance.{Lists, pair_count}
 use Rattle.rank_tables.specs.Stability.{Best, is_weakly_stable}
 use Rattle.pb_rows.specs.Formula.{Formula}
 use Rattle.proof_lines.specs.declared.line.Claim.{Claim}
 use Rattle.proof_rules.specs.Sound.{IsTrueClaim}
 use Rattle.promotion_heuristic.specs.Promotion.{promotion}
 use Rattle.hrt_solve.specs.Gauged.{AreNumbersOf, IsMost, bound_claim, found_claim}
+use Rattle.hrt_solve.specs.Searched.{IsSolveProof}
 use Rattle.hrt_solve.specs.Writing.{IsProof}
+use Rattle.hrt_inputs.specs.Taken.{IsInstance}
 use Rattle.hrt_text.specs.Text.{rows}
 use Rattle.hrt_reader.specs.PairsText.{pairs_of_rows, pairs_refusal}
 use Rattle.hrt_reader.specs.Accepted.{Spells}
@@ -37,7 +39,7 @@ pub record IsReported (request : Option Request) (status : Status) (old new : Wo
   pub outcome : Outcome
   pub due : ComesTo (plan_of request) old.content.file outcome
   pub answered : status ≡ outcome.status
-  pub report : IsReport outcome.report (new.content.sent Report)
+  pub report : new.content.sent Report ≡ outcome.report
   pub read_out : IsReadOut due.read new
   pub sends : SendsAll (outputs_of request outcome.texts) old.content new.content
 
@@ -81,7 +83,7 @@ pub record IsDecided (request : Option Request) (n : ℕ) (old new : World) : Ty
 abbrev pub IsDue : Option Request → ℕ → World → World → Type 0
 IsDue request n old new =
     IsTrue (is_determined (plan_of request).job) → (due : Outcome) → ComesTo (plan_of request) old.content.file due → has_report n ≡ true
-    → (n ≡ code_of due.status) × IsReport due.report (new.content.sent Report)
+    → (n ≡ code_of due.status) × (new.content.sent Report ≡ due.report)
 
 -- no count of faults has risen
 pub record NoRise (old new : World) : Type 0 where
@@ -99,16 +101,12 @@ abbrev pub Finishes : Option Request → ℕ → World → World → Type 0
 Finishes request n old new =
     NoRise old new → AreTaken (plan_of request).inputs old.content.file → IsTrue (is_code_among (statuses_of (plan_of request).job) n) ⊎ (n ≡ 6)
 
--- the report lists the pairs of a best matching of the instance that the file spells, by rising number
-pub record PrintsBest (instance : List ℕ) (old new : Content) : Type 0 where
-  pub bytes : List ℕ
-  pub file : old.file instance ≡ Some bytes
-  pub lists : Lists
-  pub spelled : Spells bytes lists
-  pub pairs : List ℕ
-  pub best : Best lists pairs
-  pub rising : IsStrictlyIncreasing pairs
-  pub report : new.sent Report ≡ solve_report lists pairs
+-- Without a rise of the counts of faults a solve of an instance of n pairs, with a budget of 2^n or more, ends with 0, or memory was
+-- wanting.
+abbrev pub Settles : List ℕ → ℕ → ℕ → World → World → Type 0
+Settles instance budget n old new =
+    NoRise old new → (bytes : List ℕ) → old.content.file instance ≡ Some bytes → (lists : Lists) → IsInstance bytes lists → 2 ^ pair_count lists ≤ budget
+    → (n ≡ 0) ⊎ (n ≡ 6)
 
 -- The report says of the pairs that one file spells of the instance that the other spells whether they are a weakly stable
 -- matching, and if they aren't the first reason.
@@ -158,13 +156,16 @@ pub record PrintsClaim (model : List ℕ) (old new : Content) : Type 0 where
   pub report : new.sent Report ≡ check_report claim
   pub is_true : IsTrueClaim formula claim
 
--- the files that are named are what was sent: the model of the lists, and a valid proof of it with this claim, which says of
--- no row that it was learned
-pub record WritesProofOf (lists : Lists) (claim : Claim) (name proof : List ℕ) (new : Content) : Type 0 where
+-- the files that are named are what was sent: the model of the lists, and a text of which this holds
+pub record WritesBoth (lists : Lists) (Is : List ℕ → Type 0) (name proof : List ℕ) (new : Content) : Type 0 where
   pub model_sent : new.sent Model ≡ model_text lists
   pub model_file : new.file name ≡ Some (new.sent Model)
   pub proof_file : new.file proof ≡ Some (new.sent Proof)
-  pub is_proof : IsProof lists (new.sent Proof) claim 0
+  pub is_proof : Is (new.sent Proof)
+
+-- the same, and the text is a valid proof of the model with this claim, which says of no row that it was learned
+abbrev pub WritesProofOf : Lists → Claim → List ℕ → List ℕ → Content → Type 0
+WritesProofOf lists claim name proof new = WritesBoth lists (λ text. IsProof lists text claim 0) name proof new
 
 -- The report tells the numbers of the instance that the file spells. No weakly stable matching has more pairs than the ceiling,
 -- and the written proof says so.
@@ -191,7 +192,7 @@ pub record PrintsMatching (lists : Lists) (top : ℕ) (last : List ℕ) (instanc
   pub numbers : AreNumbersOf lists deleted top
   pub most : IsMost lists top
   pub stable : IsTrue (is_weakly_stable lists (promotion lists))
-  pub report : new.sent Report ≡ match_lines lists deleted top (promotion lists) ++ last
+  pub report : new.sent Report ≡ match_lines lists (first_finding lists deleted top) ++ last
   pub written : WritesProofOf lists (found_claim top (length (promotion lists))) name proof new
 
 -- the listed pairs are as many as the ceiling, so no weakly stable matching is larger
@@ -206,6 +207,37 @@ pub record PrintsOpen (instance name proof : List ℕ) (old new : Content) : Typ
   pub top : ℕ
   pub printed : PrintsMatching lists top (count_line (codes "at most") top) instance name proof old new
   pub fewer : length (promotion lists) < top
+
+-- The report tells the numbers of the instance that the file spells, how many rows were learned, and a weakly stable matching by rising
+-- numbers of pairs, and says whether it is best. No row was learned where the first matching is as large as the ceiling. The written
+-- proof is that of a solve with this budget: of the printed size, whether it is best, and of the ceiling.
+pub record PrintsSolved (lists : Lists) (budget : ℕ) (found : Finding) (best : Bool) (instance name proof : List ℕ) (old new : Content) : Type 0 where
+  pub bytes : List ℕ
+  pub file : old.file instance ≡ Some bytes
+  pub spelled : Spells bytes lists
+  pub numbers : AreNumbersOf lists found.deleted found.top
+  pub most : IsMost lists found.top
+  pub first : found.first ≡ length (promotion lists)
+  pub unsearched : found.first ≡ found.top → found.conflicts ≡ 0
+  pub stable : IsTrue (is_weakly_stable lists found.pairs)
+  pub rising : IsStrictlyIncreasing found.pairs
+  pub report : new.sent Report ≡ match_report lists found best
+  pub written : WritesBoth lists (IsSolveProof lists budget found.top (length found.pairs) found.conflicts best) name proof new
+
+-- no weakly stable matching is larger than the printed one
+pub record PrintsBest (instance name proof : List ℕ) (budget : ℕ) (old new : Content) : Type 0 where
+  pub lists : Lists
+  pub found : Finding
+  pub printed : PrintsSolved lists budget found true instance name proof old new
+  pub best : Best lists found.pairs
+
+-- the printed matching is shorter than the ceiling, and as many rows were learned as the budget allows
+pub record PrintsSpent (instance name proof : List ℕ) (budget : ℕ) (old new : Content) : Type 0 where
+  pub lists : Lists
+  pub found : Finding
+  pub printed : PrintsSolved lists budget found false instance name proof old new
+  pub fewer : length found.pairs < found.top
+  pub spent : found.conflicts ≡ budget
 
 -- a code after which no file has changed
 abbrev pub keeps_files : ℕ → Bool

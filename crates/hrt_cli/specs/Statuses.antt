@@ -53,7 +53,7 @@ rejection_status truncated = ProofRefused
 
 -- the statuses that tell why a file of a kind isn't taken
 abbrev pub refusals_of : Kind → List Status
-refusals_of (plan.instance limit) = InstanceRefused ∷ LimitExceeded ∷ []
+refusals_of plan.instance = InstanceRefused ∷ LimitExceeded ∷ []
 refusals_of plan.pairs = PairsRefused ∷ LimitExceeded ∷ []
 refusals_of plan.model = ProofRefused ∷ LimitExceeded ∷ []
 refusals_of plan.proof = ProofRefused ∷ LimitExceeded ∷ []
@@ -61,7 +61,7 @@ refusals_of plan.proof = ProofRefused ∷ LimitExceeded ∷ []
 -- the statuses to which a job comes once its inputs are taken
 abbrev pub statuses_of : Job → List Status
 statuses_of plan.explain = Misused ∷ []
-statuses_of plan.solve = Done ∷ []
+statuses_of (plan.solve budget) = Done ∷ Bounded ∷ []
 statuses_of plan.audit = Done ∷ AuditNo ∷ []
 statuses_of plan.model = Done ∷ []
 statuses_of plan.verify = Done ∷ []

@@ -8,9 +8,6 @@ use Rattle.hrt_base.specs.declared.failure.WriteEnd.TheVariants as end
 use Rattle.hrt_base.specs.Calls.{NoFault, Rose}
 use Rattle.hrt_base.specs.World.{World, Content, put, started}
 use Rattle.rank_tables.specs.Instance.{Lists}
-use Rattle.proof_lines.specs.declared.line.Claim.{Claim}
-use Rattle.hrt_solve.specs.Gauged.{AreNumbersOf}
-use Rattle.hrt_solve.specs.Writing.{IsProof}
 use Rattle.hrt_cli.specs.declared.stop.Ended.{Ended}
 use Rattle.hrt_cli.specs.declared.stop.Ended.TheVariants.{ReadFault, WriteFault, NoMemory}
 use Rattle.hrt_cli.specs.Outputs.{Output, both, files_after, fronts, text_on}
@@ -74,11 +71,10 @@ pub record AreBegun (told : Type 0) (name proof : List ℕ) (old new : World) : 
   pub begun : new.begun ≡ put Proof Writing (put Model Writing old.begun)
   pub content : told → new.content ≡ started Proof proof (started Model name old.content)
 
--- the numbers are the instance's, and the model and a proof of this claim were written
-pub record SavesProof (told : Type 0) (claim : Claim) (lists : Lists) (deleted top : ℕ) (name proof : List ℕ) (old new : World) : Type 0 where
+-- the model was written, and a text of which this holds
+pub record SavesBoth (told : Type 0) (Is : List ℕ → Type 0) (lists : Lists) (name proof : List ℕ) (old new : World) : Type 0 where
   pub text : List ℕ
-  pub numbers : AreNumbersOf lists deleted top
-  pub is_proof : IsProof lists text claim 0
+  pub is : Is text
   pub saved : WritesAll told (both name proof lists text) old new
 
 -- fronts were written of the model and of a text of which this holds

@@ -68,7 +68,7 @@ fn limit_name(limit: Limit) -> &'static str
     match limit {
         Limit::Residents => "residents",
         Limit::Hospitals => "hospitals",
-        Limit::Pairs | Limit::TriedPairs => "pairs",
+        Limit::Pairs => "pairs",
         Limit::Terms => "terms",
         Limit::InstanceBytes => "instance-bytes",
         Limit::PairsBytes => "pairs-bytes",

@@ -13,7 +13,7 @@ ghost use Rattle.hrt_cli.specs.Outcomes.{audited};
 
 use crate::{Answer, Ended, Report, Status, explain};
 use hrt_base::{Host, NoMemory, PairNo};
-use hrt_inputs::{Limit, load, load_pairs};
+use hrt_inputs::{load, load_pairs};
 use rank_tables::Instance;
 use stability_audit::{Auditor, Verdict};
 use std::alloc::Global;
@@ -28,7 +28,7 @@ pub fn audit<H: Host>(
     requires { AtStart H.told (H.world host.old) }
     ensures { Serves H.told (Some (audit instance.now pairs.now)) result (H.world host.old) (H.world host.new) }
 {
-    let inst = match load(alloc, host, instance, Limit::Pairs) {
+    let inst = match load(alloc, host, instance) {
         Ok(inst) => inst,
         Err(stop) => return explain(alloc, stop),
     };

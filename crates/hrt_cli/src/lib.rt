@@ -3,6 +3,7 @@
 
 mod answer;
 mod auditing;
+mod budget;
 mod checking;
 mod claims;
 mod matches;
@@ -11,13 +12,13 @@ mod program;
 mod proving;
 mod refusals;
 mod report;
-mod solve;
 mod status;
 mod stop;
 mod verifying;
 mod words;
 
 use answer::{Answer, explain};
+use budget::Budget;
 pub use program::run;
 use report::Report;
 use status::{Status, exit_code};

@@ -1,10 +1,10 @@
 // Reports on bounds and on matchings.
-ghost use Rattle.std.specs.Prelude.{◌≡◌, ◌++◌, ◌≤◌, All, IfOk, OnOk, codes, flat_map, if◌then◌else◌, length};
+ghost use Rattle.std.specs.Prelude.{◌≡◌, ◌++◌, ◌≤◌, All, IfOk, IsTrue, OnOk, flat_map};
+ghost use Rattle.rank_tables.specs.Instance.{pair_count};
+ghost use Rattle.rank_tables.specs.Stability.{is_weakly_stable};
 ghost use Rattle.rank_tables.specs.Tables.{numbers_of, IsPairNo};
 ghost use Rattle.rank_tables.specs.WellFormed.{most_pairs};
-ghost use Rattle.promotion_heuristic.specs.Promotion.{promotion};
-ghost use Rattle.hrt_solve.specs.Writing.{IsQuickEnd};
-ghost use Rattle.hrt_cli.specs.Reports.{bound_lines, bound_report, count_line, end_lines, line, pair_line, quick_report, solve_report};
+ghost use Rattle.hrt_cli.specs.Reports.{bound_lines, bound_report, finding_of, found_lines, last_line, match_report, pair_line};
 
 use crate::Report;
 use hrt_base::{NoMemory, PairNo};
@@ -12,20 +12,6 @@ use hrt_solve::{BoundEnd, SolveEnd};
 use itoa::Buffer;
 use rank_tables::Instance;
 use std::alloc::Global;
-
-/// The report on these pairs, which are best.
-pub fn solve_report(alloc: Global, inst: &Instance, pairs: &[PairNo]) -> Result<Report, NoMemory>
-    requires few { length pairs.now ≤ most_pairs }
-    requires numbers { All (λ p. IsPairNo inst.now p.0) pairs.now }
-    ensures { IfOk result (λ report. report ≡ solve_report inst.now (numbers_of pairs.now)) }
-{
-    let mut report = Report::new(alloc);
-    report.push_instance(inst)?;
-    push_pairs(&mut report, inst, pairs)?;
-    report.push_count("size", pairs.len() as u32)?;
-    report.push_line("best")?;
-    Ok(report)
-}
 
 /// The report on a bound.
 pub fn bound_report(alloc: Global, inst: &Instance, end: BoundEnd) -> Result<Report, NoMemory>
@@ -37,10 +23,11 @@ pub fn bound_report(alloc: Global, inst: &Instance, end: BoundEnd) -> Result<Rep
     Ok(report)
 }
 
-/// The report on a matching that was found without a search.
-pub fn quick_report(alloc: Global, inst: &Instance, end: &SolveEnd) -> Result<Report, NoMemory>
-    requires { IsQuickEnd inst.now end.now }
-    ensures { IfOk result (λ report. report ≡ quick_report inst.now end.now.deleted end.now.ceiling (promotion inst.now)) }
+/// The report on a matching.
+pub fn match_report(alloc: Global, inst: &Instance, end: &SolveEnd) -> Result<Report, NoMemory>
+    requires few { pair_count inst.now ≤ most_pairs }
+    requires stable { IsTrue (is_weakly_stable inst.now (numbers_of end.now.pairs.items)) }
+    ensures { IfOk result (λ report. report ≡ match_report inst.now (finding_of end.now) end.now.best) }
 {
     let mut report = Report::new(alloc);
     push_bound(&mut report, inst, end.deleted, end.ceiling)?;
@@ -65,19 +52,20 @@ fn push_bound(
 
 // Adds the lines on the matching.
 fn push_found(report: &mut Report, inst: &Instance, end: &SolveEnd) -> Result<(), NoMemory>
-    requires { IsQuickEnd inst.now end.now }
-    ensures { OnOk result (report.new ≡ report.old ++ end_lines inst.now end.now) }
+    requires few { pair_count inst.now ≤ most_pairs }
+    requires stable { IsTrue (is_weakly_stable inst.now (numbers_of end.now.pairs.items)) }
+    ensures { OnOk result (report.new ≡ report.old ++ found_lines inst.now (finding_of end.now)) }
 {
     let mut buffer = Buffer::new();
     report.push_count("first", end.first)?;
     report.push_value("conflicts", buffer.format(end.conflicts))?;
     push_pairs(report, inst, &end.pairs)?;
-    report.push_count("size", end.first)
+    report.push_count("size", end.pairs.len() as u32)
 }
 
 // Adds the line that says that no other matching is larger, or how large one is at most.
 fn push_last(report: &mut Report, end: &SolveEnd) -> Result<(), NoMemory>
-    ensures { OnOk result (report.new ≡ report.old ++ (if end.now.best then line (codes "best") else count_line (codes "at most") end.now.ceiling)) }
+    ensures { OnOk result (report.new ≡ report.old ++ last_line end.now.best end.now.ceiling) }
 {
     if end.best {
         report.push_line("best")

@@ -13,7 +13,7 @@ ghost use Rattle.hrt_cli.specs.Writing.{EndsWriting, WritesAll, WritesInPart};
 
 use crate::{Answer, Ended, Report, Status, explain};
 use hrt_base::{Begun, Host, NoMemory, Port, WriteEnd};
-use hrt_inputs::{Limit, load};
+use hrt_inputs::load;
 use opb_text::write_model;
 use rank_tables::Instance;
 use stability_model::Model;
@@ -29,7 +29,7 @@ pub fn model<H: Host>(
     requires { AtStart H.told (H.world host.old) }
     ensures { Serves H.told (Some (model instance.now file.now)) result (H.world host.old) (H.world host.new) }
 {
-    match load(alloc, host, instance, Limit::Pairs) {
+    match load(alloc, host, instance) {
         Ok(inst) => modeled(alloc, host, file, &inst),
         Err(stop) => explain(alloc, stop),
     }

@@ -6,13 +6,12 @@ ghost use Rattle.hrt_solve.specs.Writing.{SentWhole};
 ghost use Rattle.hrt_cli.specs.Answers.{IsCutShort, LeavesFronts, SendsNothing, Serves};
 ghost use Rattle.hrt_cli.specs.Ports.{KeepsOtherPorts, ReadsInputs, WritesOutputs};
 ghost use Rattle.hrt_cli.specs.Requests.{asked_by, audit, bound, check, model, quick, request_of, solve, texts_of, verify};
-ghost use Rattle.hrt_cli.specs.Runs.{EndsAs, Finishes, IsComplete, IsDecided, IsDue, KeepsFiles, KeepsOtherFiles, PrintsAudit, PrintsBest, PrintsBound, PrintsClaim, PrintsMet, PrintsOpen, PrintsSizes, WritesModel, has_report, is_code_of, keeps_files};
+ghost use Rattle.hrt_cli.specs.Runs.{EndsAs, Finishes, IsComplete, IsDecided, IsDue, KeepsFiles, KeepsOtherFiles, PrintsAudit, PrintsBest, PrintsBound, PrintsClaim, PrintsMet, PrintsOpen, PrintsSizes, PrintsSpent, Settles, WritesModel, has_report, is_code_of, keeps_files};
 
 use crate::auditing::audit;
 use crate::checking::check;
 use crate::modeling::model;
-use crate::proving::{bound, quick};
-use crate::solve::solve;
+use crate::proving::{bound, quick, solve};
 use crate::verifying::verify;
 use crate::{Answer, Command, Ended, Status, command_of, exit_code};
 use hrt_base::{Begun, Failed, Host, Port, write_all};
@@ -24,7 +23,8 @@ use std::alloc::Global;
 #[tactic(auto, using(crate::proofs::Codes::misused_code, crate::proofs::Codes::understood_code, crate::proofs::Codes::read_fault, crate::proofs::Codes::after_read_fault, crate::proofs::Codes::no_output_begun, crate::proofs::Codes::write_fault, crate::proofs::Codes::after_write_fault, crate::proofs::Codes::after_no_memory, crate::proofs::Codes::closed, crate::proofs::Codes::no_fault, crate::proofs::Codes::files_kept, crate::proofs::Codes::others_kept, crate::proofs::Codes::known))]
 pub fn run<H: Host>(alloc: Global, words: &[String], host: &mut H) -> u8
     requires { AtStart H.told (H.world host.old) }
-    ensures best { H.told → result ≡ 0 → (instance : List ℕ) → request_of (texts_of words.now) ≡ Some (solve instance) → PrintsBest instance (H.world host.old).content (H.world host.new).content }
+    ensures best { H.told → result ≡ 0 → (instance model proof : List ℕ) (budget : ℕ) → request_of (texts_of words.now) ≡ Some (solve instance model proof budget) → PrintsBest instance model proof budget (H.world host.old).content (H.world host.new).content }
+    ensures spent { H.told → result ≡ 10 → (instance model proof : List ℕ) (budget : ℕ) → request_of (texts_of words.now) ≡ Some (solve instance model proof budget) → PrintsSpent instance model proof budget (H.world host.old).content (H.world host.new).content }
     ensures audited { H.told → (result ≡ 0) ⊎ (result ≡ 9) → (instance pairs : List ℕ) → request_of (texts_of words.now) ≡ Some (audit instance pairs) → PrintsAudit instance pairs (result == 0) (H.world host.old).content (H.world host.new).content }
     ensures model { H.told → result ≡ 0 → (instance file : List ℕ) → request_of (texts_of words.now) ≡ Some (model instance file) → WritesModel instance file (H.world host.old).content (H.world host.new).content }
     ensures sizes { H.told → result ≡ 0 → (instance proof : List ℕ) → request_of (texts_of words.now) ≡ Some (verify instance proof) → PrintsSizes instance (H.world host.old).content (H.world host.new).content }
@@ -38,6 +38,7 @@ pub fn run<H: Host>(alloc: Global, words: &[String], host: &mut H) -> u8
     ensures due { H.told → IsDue (request_of (texts_of words.now)) result (H.world host.old) (H.world host.new) }
     ensures complete { H.told → IsComplete (request_of (texts_of words.now)) result (H.world host.old) (H.world host.new) }
     ensures finishes { H.told → Finishes (request_of (texts_of words.now)) result (H.world host.old) (H.world host.new) }
+    ensures settles { H.told → (instance model proof : List ℕ) (budget : ℕ) → request_of (texts_of words.now) ≡ Some (solve instance model proof budget) → Settles instance budget result (H.world host.old) (H.world host.new) }
     ensures read_fault { result ≡ 4 → Rose (H.world host.old).read_faults (H.world host.new).read_faults }
     ensures no_output_begun { result ≡ 4 → (port : Port) → (H.world host.new).begun port ≡ Begun.Writing → port ≡ Port.Report }
     ensures after_read_fault { H.told → result ≡ 4 → SendsNothing (H.world host.old).content (H.world host.new).content }
@@ -86,7 +87,9 @@ fn answer_to<H: Host>(alloc: Global, host: &mut H, command: Command) -> Result<A
     ensures { Serves H.told (Some (asked_by command.entry)) result (H.world host.old) (H.world host.new) }
 {
     match command {
-        Command::Solve(instance) => solve(alloc, host, instance),
+        Command::Solve(instance, model, proof, budget) => {
+            solve(alloc, host, instance, model, proof, budget)
+        }
         Command::Audit(instance, pairs) => audit(alloc, host, instance, pairs),
         Command::Model(instance, file) => model(alloc, host, instance, file),
         Command::Verify(instance, proof) => verify(alloc, host, instance, proof),

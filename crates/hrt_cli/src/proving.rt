@@ -1,19 +1,25 @@
-// The commands that write a model and a proof of it, without a search.
-ghost use Rattle.std.specs.Prelude.{◌≡◌, IfErr, IfOk, IsErrOf, List, OnErr, OnOk, Some, if◌then◌else◌, ℕ};
+// The commands that write a model and a proof of it.
+ghost use Rattle.std.specs.Prelude.{◌≡◌, ◌≤◌, ◌^◌, IfErr, IfOk, IsErrOf, IsTrue, List, OnErr, OnOk, Some, if◌then◌else◌, ℕ};
 ghost use Rattle.hrt_base.specs.Calls.{AtStart, Rose};
-ghost use Rattle.hrt_solve.specs.Gauged.{bound_claim};
-ghost use Rattle.hrt_solve.specs.Writing.{IsBoundText, IsQuickEnd, IsQuickText};
+ghost use Rattle.rank_tables.specs.Instance.{pair_count};
+ghost use Rattle.rank_tables.specs.Stability.{is_weakly_stable};
+ghost use Rattle.rank_tables.specs.Tables.{numbers_of};
+ghost use Rattle.rank_tables.specs.WellFormed.{most_pairs};
+ghost use Rattle.hrt_solve.specs.Gauged.{AreNumbersOf, bound_claim};
+ghost use Rattle.hrt_solve.specs.Searched.{IsSolveEnd, IsSolveText};
+ghost use Rattle.hrt_solve.specs.Writing.{IsBoundText, IsProof, IsQuickEnd, IsQuickText};
 ghost use Rattle.hrt_inputs.specs.Inputs.{KeepsPorts};
 ghost use Rattle.hrt_cli.specs.Answers.{IsAnswer, Serves};
 ghost use Rattle.hrt_cli.specs.Ports.{BeginsWriting, IsModelOrProof};
-ghost use Rattle.hrt_cli.specs.Requests.{bound, quick};
-ghost use Rattle.hrt_cli.specs.Outcomes.{bounded, first_claim, matched};
-ghost use Rattle.hrt_cli.specs.Writing.{AreBegun, SavesInPart, SavesProof, WritesNothing};
+ghost use Rattle.hrt_cli.specs.Reports.{finding_of};
+ghost use Rattle.hrt_cli.specs.Requests.{bound, quick, solve};
+ghost use Rattle.hrt_cli.specs.Outcomes.{IsProofOf, bounded, first_claim, solved};
+ghost use Rattle.hrt_cli.specs.Writing.{AreBegun, SavesBoth, SavesInPart, WritesNothing};
 
-use crate::matches::{bound_report, quick_report};
-use crate::{Answer, Ended, Status, explain};
+use crate::matches::{bound_report, match_report};
+use crate::{Answer, Budget, Ended, Status, explain};
 use hrt_base::{Begun, Host, Port, WriteEnd};
-use hrt_inputs::{Limit, load};
+use hrt_inputs::load;
 use hrt_solve::{BoundEnd, SolveEnd};
 use rank_tables::Instance;
 use std::alloc::Global;
@@ -29,12 +35,34 @@ pub fn bound<H: Host>(
     requires { AtStart H.told (H.world host.old) }
     ensures { Serves H.told (Some (bound instance.now model.now proof.now)) result (H.world host.old) (H.world host.new) }
 {
-    let inst = match load(alloc, host, instance, Limit::Pairs) {
+    let inst = match load(alloc, host, instance) {
         Ok(inst) => inst,
         Err(stop) => return explain(alloc, stop),
     };
     match save_bound(alloc, host, model, proof, &inst) {
         Ok(end) => bounded(alloc, &inst, end),
+        Err(end) => Err(Ended::from(end)),
+    }
+}
+
+/// Reads the instance and writes its model, and a proof of the matching that a search finds.
+pub fn solve<H: Host>(
+    alloc: Global,
+    host: &mut H,
+    instance: &str,
+    model: &str,
+    proof: &str,
+    budget: Budget,
+) -> Result<Answer, Ended>
+    requires { AtStart H.told (H.world host.old) }
+    ensures { Serves H.told (Some (solve instance.now model.now proof.now budget.conflicts)) result (H.world host.old) (H.world host.new) }
+{
+    let inst = match load(alloc, host, instance) {
+        Ok(inst) => inst,
+        Err(stop) => return explain(alloc, stop),
+    };
+    match save_solve(alloc, host, model, proof, &inst, budget.conflicts) {
+        Ok(end) => solved(alloc, &inst, &end),
         Err(end) => Err(Ended::from(end)),
     }
 }
@@ -50,12 +78,12 @@ pub fn quick<H: Host>(
     requires { AtStart H.told (H.world host.old) }
     ensures { Serves H.told (Some (quick instance.now model.now proof.now)) result (H.world host.old) (H.world host.new) }
 {
-    let inst = match load(alloc, host, instance, Limit::Pairs) {
+    let inst = match load(alloc, host, instance) {
         Ok(inst) => inst,
         Err(stop) => return explain(alloc, stop),
     };
     match save_match(alloc, host, model, proof, &inst) {
-        Ok(end) => matched(alloc, &inst, &end),
+        Ok(end) => solved(alloc, &inst, &end),
         Err(end) => Err(Ended::from(end)),
     }
 }
@@ -88,7 +116,8 @@ fn save_bound<H: Host>(
     requires proof { (H.world host.old).begun Port.Proof ≡ Begun.Idle }
     ensures ports { BeginsWriting IsModelOrProof (H.world host.old) (H.world host.new) }
     ensures others { KeepsPorts H.told IsModelOrProof (H.world host.old) (H.world host.new) }
-    ensures saved { IfOk result (λ end. SavesProof H.told (bound_claim end.ceiling) inst.now end.deleted end.ceiling model.now proof.now (H.world host.old) (H.world host.new)) }
+    ensures numbers { IfOk result (λ end. AreNumbersOf inst.now end.deleted end.ceiling) }
+    ensures saved { IfOk result (λ end. SavesBoth H.told (λ text. IsProof inst.now text (bound_claim end.ceiling) 0) inst.now model.now proof.now (H.world host.old) (H.world host.new)) }
     ensures part { OnErr result (SavesInPart H.told (IsBoundText inst.now) inst.now model.now proof.now (H.world host.old) (H.world host.new)) }
     ensures failed { IsErrOf result WriteEnd.Failed → Rose (H.world host.old).write_faults (H.world host.new).write_faults }
 {
@@ -109,12 +138,35 @@ fn save_match<H: Host>(
     ensures ports { BeginsWriting IsModelOrProof (H.world host.old) (H.world host.new) }
     ensures others { KeepsPorts H.told IsModelOrProof (H.world host.old) (H.world host.new) }
     ensures said { IfOk result (λ end. IsQuickEnd inst.now end) }
-    ensures saved { IfOk result (λ end. SavesProof H.told (first_claim inst.now end.ceiling) inst.now end.deleted end.ceiling model.now proof.now (H.world host.old) (H.world host.new)) }
+    ensures saved { IfOk result (λ end. SavesBoth H.told (λ text. IsProof inst.now text (first_claim inst.now end.ceiling) 0) inst.now model.now proof.now (H.world host.old) (H.world host.new)) }
     ensures part { OnErr result (SavesInPart H.told (IsQuickText inst.now) inst.now model.now proof.now (H.world host.old) (H.world host.new)) }
     ensures failed { IsErrOf result WriteEnd.Failed → Rose (H.world host.old).write_faults (H.world host.new).write_faults }
 {
     begin(host, model, proof)?;
     Ok(hrt_solve::quick(alloc, inst, host)?)
+}
+
+// Writes the model of the instance, and a proof of the matching that a search finds.
+fn save_solve<H: Host>(
+    alloc: Global,
+    host: &mut H,
+    model: &str,
+    proof: &str,
+    inst: &Instance,
+    budget: u64,
+) -> Result<SolveEnd, WriteEnd>
+    requires budget { budget ≤ 10 ^ 12 }
+    requires model { (H.world host.old).begun Port.Model ≡ Begun.Idle }
+    requires proof { (H.world host.old).begun Port.Proof ≡ Begun.Idle }
+    ensures ports { BeginsWriting IsModelOrProof (H.world host.old) (H.world host.new) }
+    ensures others { KeepsPorts H.told IsModelOrProof (H.world host.old) (H.world host.new) }
+    ensures said { IfOk result (λ end. IsSolveEnd inst.now budget end) }
+    ensures saved { IfOk result (λ end. SavesBoth H.told (IsProofOf inst.now budget end) inst.now model.now proof.now (H.world host.old) (H.world host.new)) }
+    ensures part { OnErr result (SavesInPart H.told (IsSolveText inst.now budget) inst.now model.now proof.now (H.world host.old) (H.world host.new)) }
+    ensures failed { IsErrOf result WriteEnd.Failed → Rose (H.world host.old).write_faults (H.world host.new).write_faults }
+{
+    begin(host, model, proof)?;
+    Ok(hrt_solve::solve(alloc, inst, host, budget)?)
 }
 
 // The answer for a bound.
@@ -128,15 +180,16 @@ fn bounded(alloc: Global, inst: &Instance, end: BoundEnd) -> Result<Answer, Ende
     })
 }
 
-// The answer for a first matching.
-fn matched(alloc: Global, inst: &Instance, end: &SolveEnd) -> Result<Answer, Ended>
-    requires { IsQuickEnd inst.now end.now }
-    ensures answered { IfOk result (λ answer. (text : List ℕ) → IsAnswer (matched inst.now end.now.deleted end.now.ceiling text) answer) }
+// The answer for a matching.
+fn solved(alloc: Global, inst: &Instance, end: &SolveEnd) -> Result<Answer, Ended>
+    requires few { pair_count inst.now ≤ most_pairs }
+    requires stable { IsTrue (is_weakly_stable inst.now (numbers_of end.now.pairs.items)) }
+    ensures answered { IfOk result (λ answer. (text : List ℕ) → IsAnswer (solved inst.now (finding_of end.now) end.now.best text) answer) }
     ensures ended { IfErr result (λ e. e ≡ Ended.NoMemory) }
 {
     Ok(Answer {
         status: status_of(end),
-        report: quick_report(alloc, inst, end)?,
+        report: match_report(alloc, inst, end)?,
     })
 }
 

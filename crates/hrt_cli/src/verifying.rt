@@ -9,7 +9,7 @@ ghost use Rattle.hrt_cli.specs.Outcomes.{verified};
 use crate::claims::verify_report;
 use crate::{Answer, Ended, Status, explain};
 use hrt_base::Host;
-use hrt_inputs::{Limit, claim_on_instance, load};
+use hrt_inputs::{claim_on_instance, load};
 use proof_lines::Claim;
 use std::alloc::Global;
 
@@ -23,7 +23,7 @@ pub fn verify<H: Host>(
     requires { AtStart H.told (H.world host.old) }
     ensures { Serves H.told (Some (verify instance.now proof.now)) result (H.world host.old) (H.world host.new) }
 {
-    let inst = match load(alloc, host, instance, Limit::Pairs) {
+    let inst = match load(alloc, host, instance) {
         Ok(inst) => inst,
         Err(stop) => return explain(alloc, stop),
     };

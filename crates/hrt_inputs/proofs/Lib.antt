@@ -1,4 +1,3 @@
-pub mod FewTerms
 pub mod KeptPorts
 pub mod Ports
 mod ProofFiles

@@ -7,10 +7,9 @@ use Rattle.hrt_reader.specs.Accepted.{Spells}
 use Rattle.hrt_reader.specs.Refusal.{Refusal, refusal, lists_of_rows}
 use Rattle.hrt_reader.proofs.Declared.{spells_from}
 use Rattle.hrt_inputs.specs.declared.limit.Limit.TheVariants.{Residents, Hospitals, Pairs, Terms, InstanceBytes}
-use Rattle.hrt_inputs.specs.declared.limit.Limit.{Limit}
 use Rattle.hrt_inputs.specs.Limits.{most}
 use Rattle.hrt_inputs.specs.Rejections.{Rejection, refused, exceeded}
-use Rattle.hrt_inputs.specs.Taken.{lists_in, of_few_terms, taken_lists, unless_refused, within}
+use Rattle.hrt_inputs.specs.Taken.{lists_in, of_few_pairs, of_few_terms, taken_lists, unless_refused}
 
 abbrev taken_as : Lists → Result Lists Rejection
 taken_as lists = Ok lists
@@ -40,11 +39,11 @@ spelled bytes found e = by (nat_lt (most InstanceBytes) (length bytes)) e
     by true h = absurd (cc)
     by false h = unrefused h
 
-pub of_within : (limit : Limit) (r : Result Lists Rejection) (lists : Lists) → within limit r ≡ Ok lists → r ≡ Ok lists
-of_within limit (Err rejection) lists e = absurd (cc)
-of_within limit (Ok found) lists e = by (nat_lt (most limit) (pair_count found)) e
+pub of_pairs : (r : Result Lists Rejection) (lists : Lists) → of_few_pairs r ≡ Ok lists → r ≡ Ok lists
+of_pairs (Err rejection) lists e = absurd (cc)
+of_pairs (Ok found) lists e = by (nat_lt (most Pairs) (pair_count found)) e
   where
-    by : (b : Bool) → cond {A = Result Lists Rejection} b (Err (exceeded limit)) (Ok found) ≡ taken_as lists → taken_as found ≡ taken_as lists
+    by : (b : Bool) → cond {A = Result Lists Rejection} b (Err (exceeded Pairs)) (Ok found) ≡ taken_as lists → taken_as found ≡ taken_as lists
     by true h = absurd (cc)
     by false h = h
 
@@ -58,4 +57,4 @@ of_terms (Ok found) lists e = by (nat_lt (most Terms) (model_terms found)) e
 
 -- lists of few pairs and few terms, too
 pub taken_spelled : (bytes : List ℕ) (lists : Lists) → taken_lists bytes ≡ Ok lists → Spells bytes lists
-taken_spelled bytes lists e = spelled bytes lists (of_within Pairs (lists_in bytes) lists (of_terms (within Pairs (lists_in bytes)) lists e))
+taken_spelled bytes lists e = spelled bytes lists (of_pairs (lists_in bytes) lists (of_terms (of_few_pairs (lists_in bytes)) lists e))

@@ -1,9 +1,8 @@
 -- What a run counts, and the most that it takes.
 use Rattle.std.specs.Prelude.{ℕ}
 use Rattle.hrt_inputs.specs.declared.limit.Limit.{Limit}
-use Rattle.hrt_inputs.specs.declared.limit.Limit.TheVariants.{Residents, Hospitals, Pairs, TriedPairs, Terms, InstanceBytes, PairsBytes, ModelBytes, Variables, Rows, ProofBytes}
+use Rattle.hrt_inputs.specs.declared.limit.Limit.TheVariants.{Residents, Hospitals, Pairs, Terms, InstanceBytes, PairsBytes, ModelBytes, Variables, Rows, ProofBytes}
 use Rattle.rank_tables.specs.WellFormed.{most_residents, most_hospitals, most_pairs, most_terms}
-use Rattle.plain_enumeration.specs.Sets.{most_pairs_tried}
 use Rattle.opb_text.specs.Limits.{most_rows, most_variables}
 use Rattle.proof_checker.specs.Limits.{most_proof_bytes}
 
@@ -12,7 +11,6 @@ abbrev pub most : Limit → ℕ
 most Residents = most_residents
 most Hospitals = most_hospitals
 most Pairs = most_pairs
-most TriedPairs = most_pairs_tried
 most Terms = most_terms
 most InstanceBytes = 67108864
 most PairsBytes = 67108864
@@ -20,17 +18,3 @@ most ModelBytes = 268435456
 most Variables = most_variables
 most Rows = most_rows
 most ProofBytes = most_proof_bytes
-
--- a limit on the pairs of an instance
-abbrev pub IsOnPairs : Limit → Type 0
-IsOnPairs Residents = ⊥
-IsOnPairs Hospitals = ⊥
-IsOnPairs Pairs = Unit {0}
-IsOnPairs TriedPairs = Unit {0}
-IsOnPairs Terms = ⊥
-IsOnPairs InstanceBytes = ⊥
-IsOnPairs PairsBytes = ⊥
-IsOnPairs ModelBytes = ⊥
-IsOnPairs Variables = ⊥
-IsOnPairs Rows = ⊥
-IsOnPairs ProofBytes = ⊥

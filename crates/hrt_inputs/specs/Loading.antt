@@ -14,7 +14,7 @@ use Rattle.hrt_inputs.specs.declared.stop.Stop.{Stop}
 use Rattle.hrt_inputs.specs.declared.stop.Stop.TheVariants.{Refused, Exceeded, PairsRefused, ModelRefused, ProofRefused, ReadFault, NoMemory}
 use Rattle.hrt_inputs.specs.Inputs.{OnlyRead}
 use Rattle.hrt_inputs.specs.Rejections.{Rejection, refused, exceeded, pairs_refused}
-use Rattle.hrt_inputs.specs.Taken.{lists_in, of_few_terms, pairs_in, within}
+use Rattle.hrt_inputs.specs.Taken.{pairs_in, taken_lists}
 
 -- the lists of a text could not be had, and this is why
 abbrev pub StopsText : Result Lists Rejection → Stop → Type 0
@@ -43,13 +43,13 @@ pub record IsNotTaken {A : Type 0} (told : Type 0) (port : Port) (name : List �
   pub out : told → (new.content.rest port ≡ []) ⊎ (rejection ≡ exceeded limit)
   pub due : told → (bytes : List ℕ) × (old.content.file name ≡ Some bytes) × (read bytes ≡ Err rejection)
 
--- the file spells these lists, which have no more pairs than the limit and no more terms than are taken
-abbrev pub IsLoaded : (told : Type 0) → List ℕ → Limit → Lists → World → World → Type 0
-IsLoaded told name limit lists old new = IsRead told Instance name (λ bytes. of_few_terms (within limit (lists_in bytes))) lists old new
+-- the file spells these lists, which have no more pairs and terms than are taken
+abbrev pub IsLoaded : (told : Type 0) → List ℕ → Lists → World → World → Type 0
+IsLoaded told name lists old new = IsRead told Instance name taken_lists lists old new
 
--- the file is no instance that is taken under the limit
-abbrev pub IsRejected : (told : Type 0) → List ℕ → Limit → Rejection → World → World → Type 0
-IsRejected told name limit rejection old new = IsNotTaken told Instance name InstanceBytes (λ bytes. of_few_terms (within limit (lists_in bytes))) rejection old new
+-- the file is no instance that is taken
+abbrev pub IsRejected : (told : Type 0) → List ℕ → Rejection → World → World → Type 0
+IsRejected told name rejection old new = IsNotTaken told Instance name InstanceBytes taken_lists rejection old new
 
 -- reading failed
 pub record FailedToRead (told : Type 0) (old new : World) : Type 0 where
@@ -57,14 +57,14 @@ pub record FailedToRead (told : Type 0) (old new : World) : Type 0 where
   pub rose : Rose old.read_faults new.read_faults
 
 -- the lists of a file could not be had, and this is why
-abbrev pub StopsLoading : (told : Type 0) → List ℕ → Limit → Stop → World → World → Type 0
-StopsLoading told name limit (Refused kind line) old new = IsRejected told name limit (refused (record { line = line; kind = number kind })) old new
-StopsLoading told name limit (Exceeded what) old new = IsRejected told name limit (exceeded what) old new
-StopsLoading told name limit (PairsRefused kind line) old new = ⊥
-StopsLoading told name limit (ModelRefused kind line) old new = ⊥
-StopsLoading told name limit (ProofRefused refusal) old new = ⊥
-StopsLoading told name limit ReadFault old new = FailedToRead told old new
-StopsLoading told name limit NoMemory old new = OnlyRead told old new
+abbrev pub StopsLoading : (told : Type 0) → List ℕ → Stop → World → World → Type 0
+StopsLoading told name (Refused kind line) old new = IsRejected told name (refused (record { line = line; kind = number kind })) old new
+StopsLoading told name (Exceeded what) old new = IsRejected told name (exceeded what) old new
+StopsLoading told name (PairsRefused kind line) old new = ⊥
+StopsLoading told name (ModelRefused kind line) old new = ⊥
+StopsLoading told name (ProofRefused refusal) old new = ⊥
+StopsLoading told name ReadFault old new = FailedToRead told old new
+StopsLoading told name NoMemory old new = OnlyRead told old new
 
 -- ---- pairs
 

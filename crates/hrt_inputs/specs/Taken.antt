@@ -12,7 +12,6 @@ use Rattle.opb_text.specs.declared.refusal.OpbRefusal.{OpbRefusal}
 use Rattle.opb_text.specs.declared.refusal.OpbRefusal.TheVariants as opb
 use Rattle.opb_text.specs.Refusal.{lines_of, refusal as opb_refusal}
 use Rattle.opb_text.specs.Statements.{formula_said, statements}
-use Rattle.hrt_inputs.specs.declared.limit.Limit.{Limit}
 use Rattle.hrt_inputs.specs.declared.limit.Limit.TheVariants.{Residents, Hospitals, Pairs, Terms, InstanceBytes, PairsBytes, ModelBytes, Variables, Rows}
 use Rattle.hrt_inputs.specs.declared.stop.ModelKind.TheVariants.{Syntax, TooBig}
 use Rattle.hrt_inputs.specs.Limits.{most}
@@ -32,10 +31,10 @@ lists_in bytes =
     if nat_lt (most InstanceBytes) (length bytes) then Err (exceeded InstanceBytes)
     else unless_refused (refusal (rows bytes)) (lists_of_rows (rows bytes))
 
--- the lists, unless they have more pairs than the limit
-abbrev pub within : Limit → Result Lists Rejection → Result Lists Rejection
-within limit (Err rejection) = Err rejection
-within limit (Ok lists) = if nat_lt (most limit) (pair_count lists) then Err (exceeded limit) else Ok lists
+-- the lists, unless they have more pairs than are taken
+abbrev pub of_few_pairs : Result Lists Rejection → Result Lists Rejection
+of_few_pairs (Err rejection) = Err rejection
+of_few_pairs (Ok lists) = if nat_lt (most Pairs) (pair_count lists) then Err (exceeded Pairs) else Ok lists
 
 -- the lists, unless their 0/1 model has more terms than are taken
 abbrev pub of_few_terms : Result Lists Rejection → Result Lists Rejection
@@ -44,7 +43,7 @@ of_few_terms (Ok lists) = if nat_lt (most Terms) (model_terms lists) then Err (e
 
 -- the lists of an instance that is taken, or why it isn't
 abbrev pub taken_lists : List ℕ → Result Lists Rejection
-taken_lists bytes = of_few_terms (within Pairs (lists_in bytes))
+taken_lists bytes = of_few_terms (of_few_pairs (lists_in bytes))
 
 -- The bytes are a spelling of these lists, and within the limits: these are the lists that are taken (`taken_where_spelled`).
 pub record IsInstance (bytes : List ℕ) (lists : Lists) : Type 0 where

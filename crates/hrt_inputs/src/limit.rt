@@ -8,8 +8,6 @@ pub enum Limit {
     Residents,
     Hospitals,
     Pairs,
-    /// The pairs of which every set is tried.
-    TriedPairs,
     /// The terms of the 0/1 model.
     Terms,
     InstanceBytes,
@@ -30,7 +28,6 @@ impl Limit {
         match self {
             Limit::Residents | Limit::Hospitals => 20_000,
             Limit::Pairs => 100_000,
-            Limit::TriedPairs => 12,
             Limit::Terms => 8_000_000,
             Limit::InstanceBytes | Limit::PairsBytes => 67_108_864,
             Limit::ModelBytes => 268_435_456,

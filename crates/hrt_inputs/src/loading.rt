@@ -1,16 +1,14 @@
 // Instances and pairs from files.
-ghost use Rattle.std.specs.Prelude.{◌≡◌, ◌≤◌, ◌<◌, length, All, IfOk, IfErr, IsTrue, Ok, Err};
-ghost use Rattle.rank_tables.specs.Instance.{Lists, pair_count};
+ghost use Rattle.std.specs.Prelude.{◌≡◌, ◌≤◌, length, All, IfOk, IfErr, IsTrue, Ok};
+ghost use Rattle.rank_tables.specs.Instance.{pair_count};
 ghost use Rattle.rank_tables.specs.Numbers.{is_distinct};
 ghost use Rattle.rank_tables.specs.Tables.{numbers_of, IsPairNo};
-ghost use Rattle.rank_tables.specs.Terms.{model_terms};
-ghost use Rattle.rank_tables.specs.WellFormed.{most_pairs, most_terms};
+ghost use Rattle.rank_tables.specs.WellFormed.{most_pairs};
 ghost use Rattle.hrt_inputs.specs.declared.limit.Limit.TheVariants.{InstanceBytes, PairsBytes};
 ghost use Rattle.hrt_inputs.specs.Inputs.{BeginsAtMost, IsAt, KeepsPorts};
-ghost use Rattle.hrt_inputs.specs.Limits.{most, IsOnPairs};
+ghost use Rattle.hrt_inputs.specs.Limits.{most};
 ghost use Rattle.hrt_inputs.specs.Loading.{ArePairsLoaded, IsLoaded, StopsLoading, StopsLoadingPairs, StopsPairsText, StopsText};
-ghost use Rattle.hrt_inputs.specs.Rejections.{exceeded};
-ghost use Rattle.hrt_inputs.specs.Taken.{lists_in, of_few_terms, pairs_in, within};
+ghost use Rattle.hrt_inputs.specs.Taken.{pairs_in, taken_lists};
 
 use crate::input::{read_file, unread};
 use crate::{Limit, Stop};
@@ -19,19 +17,12 @@ use hrt_reader::{LimitKind, PairsRefusal, ReadRefusal, read_instance, read_pairs
 use rank_tables::Instance;
 use std::alloc::Global;
 
-/// The instance in a file, unless it has more acceptable pairs than the limit, or more terms of the 0/1 model than are taken.
-pub fn load<H: Host>(
-    alloc: Global,
-    host: &mut H,
-    name: &str,
-    limit: Limit,
-) -> Result<Instance, Stop>
-    requires idle { (H.world host.old).begun Port.Instance ≡ Begun.Idle }
-    requires few { most limit ≤ most_pairs }
-    requires on_pairs { IsOnPairs limit }
-    ensures loaded { IfOk result (λ lists. IsLoaded H.told name.now limit lists (H.world host.old) (H.world host.new)) }
-    ensures few { IfOk result (λ lists. pair_count lists ≤ most limit) }
-    ensures stopped { IfErr result (λ stop. StopsLoading H.told name.now limit stop (H.world host.old) (H.world host.new)) }
+/// The instance in a file, unless it has more acceptable pairs, or more terms of the 0/1 model, than are taken.
+pub fn load<H: Host>(alloc: Global, host: &mut H, name: &str) -> Result<Instance, Stop>
+    requires { (H.world host.old).begun Port.Instance ≡ Begun.Idle }
+    ensures loaded { IfOk result (λ lists. IsLoaded H.told name.now lists (H.world host.old) (H.world host.new)) }
+    ensures few { IfOk result (λ lists. pair_count lists ≤ most_pairs) }
+    ensures stopped { IfErr result (λ stop. StopsLoading H.told name.now stop (H.world host.old) (H.world host.new)) }
     ensures begun { BeginsAtMost Port.Instance (H.world host.old) (H.world host.new) }
     ensures others { KeepsPorts H.told (IsAt Port.Instance) (H.world host.old) (H.world host.new) }
 {
@@ -42,46 +33,26 @@ pub fn load<H: Host>(
         name,
         Limit::InstanceBytes.most() as usize,
     ) {
-        Ok(bytes) => instance_in(alloc, &bytes, limit),
+        Ok(bytes) => instance_in(alloc, &bytes),
         Err(end) => Err(unread(end, Limit::InstanceBytes)),
     }
 }
 
 // The instance that a text spells.
-fn instance_in(alloc: Global, bytes: &[u8], limit: Limit) -> Result<Instance, Stop>
-    requires short { length bytes.now ≤ most InstanceBytes }
-    requires few { most limit ≤ most_pairs }
-    requires on_pairs { IsOnPairs limit }
-    ensures lists { IfOk result (λ lists. of_few_terms (within limit (lists_in bytes.now)) ≡ Ok lists) }
-    ensures within { IfOk result (λ lists. pair_count lists ≤ most limit) }
-    ensures stopped { IfErr result (StopsText (of_few_terms (within limit (lists_in bytes.now)))) }
+fn instance_in(alloc: Global, bytes: &[u8]) -> Result<Instance, Stop>
+    requires { length bytes.now ≤ most InstanceBytes }
+    ensures lists { IfOk result (λ lists. taken_lists bytes.now ≡ Ok lists) }
+    ensures few { IfOk result (λ lists. pair_count lists ≤ most_pairs) }
+    ensures stopped { IfErr result (StopsText (taken_lists bytes.now)) }
 {
     match read_instance(alloc, bytes) {
-        Ok(inst) => {
-            if u64::from(inst.pairs()) > limit.most() {
-                Err(Stop::Exceeded(limit))
-            } else {
-                Ok(inst)
-            }
-        }
+        Ok(inst) => Ok(inst),
         Err(ReadRefusal::Bad { kind, line }) => Err(Stop::Refused { kind, line }),
         Err(ReadRefusal::Limit(LimitKind::Residents)) => Err(Stop::Exceeded(Limit::Residents)),
         Err(ReadRefusal::Limit(LimitKind::Hospitals)) => Err(Stop::Exceeded(Limit::Hospitals)),
-        Err(ReadRefusal::Limit(LimitKind::Pairs)) => Err(Stop::Exceeded(limit)),
-        Err(ReadRefusal::Limit(LimitKind::Terms)) => Err(Stop::Exceeded(exceeded_by_terms(limit))),
+        Err(ReadRefusal::Limit(LimitKind::Pairs)) => Err(Stop::Exceeded(Limit::Pairs)),
+        Err(ReadRefusal::Limit(LimitKind::Terms)) => Err(Stop::Exceeded(Limit::Terms)),
         Err(ReadRefusal::NoMemory) => Err(Stop::NoMemory),
-    }
-}
-
-// What there is too much of where there are too many terms. Few pairs don't have so many, so where every set of pairs is
-// tried there are too many pairs as well, and these are told first.
-fn exceeded_by_terms(limit: Limit) -> Limit
-    requires { IsOnPairs limit }
-    ensures { (lists : Lists) → pair_count lists ≤ most_pairs → most_terms < model_terms lists → of_few_terms (within limit (Ok lists)) ≡ Err (exceeded result) }
-{
-    match limit {
-        Limit::TriedPairs => limit,
-        _ => Limit::Terms,
     }
 }
 

@@ -1,17 +1,20 @@
 use Rattle.std.proofs.Common.{ℕ, refl, sym, ap, ◌∙◌, subst}
 use Rattle.hrt_cli.specs.Requests.{request_of, texts_of}
-use Rattle.hrt_cli.specs.Runs.{Finishes, IsComplete, IsDecided, IsDue, has_report}
+use Rattle.hrt_cli.specs.Runs.{Finishes, IsComplete, IsDecided, IsDue, Settles, has_report}
 use Rattle.hrt_cli.proofs.Codes.{complete, decided, decided_as, due, finishes}
 use Rattle.hrt_cli.proofs.NamedOutputs.{AreNamed, outputs_named}
-use Rattle.hrt_cli.proofs.Printed.{best}
 use Rattle.hrt_cli.proofs.PrintedAudits.{audits, comes_with_report}
 use Rattle.hrt_cli.proofs.PrintedBounds.{bound_printed, met, open_printed}
 use Rattle.hrt_cli.proofs.PrintedClaims.{claimed, sizes}
 use Rattle.hrt_cli.proofs.PrintedModels.{model_written}
+use Rattle.hrt_cli.proofs.PrintedSearches.{best, settles, spent}
 use Rattle.hrt_cli.proofs.program.run.Goals as goal
 
 pub returns-clause-best : goal.returns-clause-best
-returns-clause-best g c = λ t e i is. best i _ _ (decided_as _ _ _ _ _ c.carry_out.ensures.ends t _ 0 c.exit_code.ensures e refl _ is)
+returns-clause-best g c = λ t e i m p n is. best i m p n _ _ (subst AreNamed is (outputs_named (texts_of c.args.words.now))) (decided_as _ _ _ _ _ c.carry_out.ensures.ends t _ 0 c.exit_code.ensures e refl _ is)
+
+pub returns-clause-spent : goal.returns-clause-spent
+returns-clause-spent g c = λ t e i m p n is. spent i m p n _ _ (subst AreNamed is (outputs_named (texts_of c.args.words.now))) (decided_as _ _ _ _ _ c.carry_out.ensures.ends t _ 10 c.exit_code.ensures e refl _ is)
 
 pub returns-clause-audited : goal.returns-clause-audited
 returns-clause-audited g c = λ t e i q is. audits i q _ _ _ e (decided_as _ _ _ _ _ c.carry_out.ensures.ends t _ c.exit_code.result c.exit_code.ensures refl (comes_with_report _ e) _ is)
@@ -47,3 +50,7 @@ returns-clause-complete g c = λ t. subst (λ (n : ℕ). IsComplete (request_of 
 
 pub returns-clause-finishes : goal.returns-clause-finishes
 returns-clause-finishes g c = λ t. subst (λ (n : ℕ). Finishes (request_of (texts_of c.args.words.now)) n (g.H.Host.world c.args.host.now) (g.H.Host.world c.carry_out.new.host)) (sym c.exit_code.ensures) (finishes _ _ _ _ _ c.carry_out.ensures.ends t)
+
+pub returns-clause-settles : goal.returns-clause-settles
+returns-clause-settles g c = λ t i m p n is.
+    subst (λ (k : ℕ). Settles i n k (g.H.Host.world c.args.host.now) (g.H.Host.world c.carry_out.new.host)) (sym c.exit_code.ensures) (settles _ _ _ _ _ c.carry_out.ensures.ends t i m p n is)

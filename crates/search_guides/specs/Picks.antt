@@ -1,9 +1,11 @@
 -- Which variable a guide picks.
-use Rattle.std.specs.Prelude.{◌≡◌, ◌≤◌, ◌<◌, ◌-◌, ℕ, false, List, Option, Some, None, IfSome, option_map, slice_get, unwrap_or, if◌then◌else◌, ◌==◌}
+use Rattle.std.specs.Prelude.{◌≡◌, ◌≤◌, ◌<◌, ◌-◌, ℕ, false, List, Option, Some, None, IfSome, IsFalse, option_map, slice_get, unwrap_or, if◌then◌else◌, ◌==◌}
 use Rattle.hrt_base.specs.declared.literal.Lit.{Lit}
 use Rattle.hrt_base.specs.declared.literal.Value.TheVariants.{Free}
+use Rattle.pb_rows.specs.Points.{IsCovered}
+use Rattle.pb_rows.specs.Terms.{opposite_lit}
 use Rattle.pb_propagate.specs.Engines.{EngineState}
-use Rattle.pb_propagate.specs.Entries.{value_in}
+use Rattle.pb_propagate.specs.Entries.{set_of, value_in}
 
 -- a variable of the engine that is free
 pub record IsFree (e : EngineState) (v : ℕ) : Type 0 where
@@ -34,6 +36,12 @@ picked found = option_map (λ v. record { var = v; neg = false }) found
 -- the pick of a guide: the free variable that scores highest, as true, and the least of those; none only where none is free
 abbrev pub IsPick : EngineState → (ℕ → ℕ) → Option Lit → Type 0
 IsPick e score pick = (found : Option ℕ) × IsFound e score e.vars found × (pick ≡ picked found)
+
+-- a literal that an engine without due rows and literals may decide: it is over the engine's variables, and neither true nor false
+pub record IsUndecided (e : EngineState) (l : Lit) : Type 0 where
+  pub covered : IsCovered e.vars l.var
+  pub untrue : IsFalse (set_of e.trail l)
+  pub unfalse : IsFalse (set_of e.trail (opposite_lit l))
 
 -- what a search decides: the pick where its variable is free, and else the least free variable, as true
 pub record IsDecision (e : EngineState) (pick result : Option Lit) : Type 0 where

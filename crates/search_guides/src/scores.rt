@@ -1,6 +1,6 @@
 // Free variables, and the one of them that scores highest.
-ghost use Rattle.std.specs.Prelude.{◌≡◌, ◌↔◌, ◌+◌, ◌≤◌, ◌<◌, IsTrue};
-ghost use Rattle.search_guides.specs.Picks.{IsDecision, IsFound, IsFree, picked, score_in};
+ghost use Rattle.std.specs.Prelude.{◌≡◌, ◌↔◌, ◌+◌, ◌≤◌, ◌<◌, ℕ, IfNone, IfSome, IsTrue};
+ghost use Rattle.search_guides.specs.Picks.{IsDecision, IsFound, IsFree, IsUndecided, picked, score_in};
 
 use hrt_base::{Lit, Value};
 use pb_propagate::Engine;
@@ -77,7 +77,9 @@ pub(crate) fn least(engine: &Engine) -> Option<u32>
 /// The literal to decide: what was picked, where its variable is one of the engine's and free, and else the least free variable
 /// as true. None only where no variable is free.
 pub fn decision(engine: &Engine, pick: Option<Lit>) -> Option<Lit>
-    ensures { IsDecision engine.now pick result }
+    ensures decision { IsDecision engine.now pick result }
+    ensures lawful { IfSome result (IsUndecided engine.now) }
+    ensures none { IfNone result ((v : ℕ) → IsFree engine.now v → ⊥) }
 {
     if let Some(lit) = pick {
         if is_free(engine, lit.var) {

@@ -1,0 +1,12 @@
+pub mod Steps
+pub mod Swapped
+pub mod Counts
+pub mod RowsGrow
+pub mod NumberNames
+pub mod Chosen
+pub mod Choosing
+pub mod Hospitals
+pub mod Moved
+pub mod Tied
+pub mod Shuffles
+pub mod LawfulDrafts

@@ -1,0 +1,4 @@
+pub mod Draws
+pub mod Swaps
+pub mod Drafts
+pub mod Rows

@@ -1,0 +1,3 @@
+pub mod Sequence
+pub mod Counting
+pub mod LeastRanked

@@ -21,9 +21,10 @@ with open(path, "w") as file:
 row() {
   local size seconds peak status told
   size=$(mebibytes "$work/i.hrt")
-  read -r seconds peak status told < <(measured "$program" solve "$work/i.hrt")
+  read -r seconds peak status told < <(measured "$program" audit "$work/i.hrt" "$work/i.pairs")
   printf '%12s %6s %8.2f %7.3f %9s %9.2f %7s\n' "$1" "$size" "$seconds" "$(per "$size" "$seconds" 1)" "$peak" "$(per "$size" "$peak" 1)" "$status"
 }
+: > "$work/i.pairs"
 printf '%12s %6s %8s %7s %9s %9s %7s\n' lists MiB seconds s/MiB 'peak MiB' peak/MiB status
 for mib in 1 4 16 64; do
   size=$((mib * 1024 * 1024 * 95 / 100))

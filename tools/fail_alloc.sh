@@ -33,7 +33,7 @@ printf 'pair a x\n' > "$work/q"
 printf '%s\n' 'pseudo-Boolean proof version 2.0' 'f 7' 'pol 1 2 +' 'soli ~x1 x2 x3' 'output NONE' \
   'conclusion BOUNDS -2 -2' 'end pseudo-Boolean proof' > "$work/p"
 bad=0
-for words in "solve $work/i" "audit $work/i $work/q" "model $work/i $work/m" "verify $work/i $work/p" \
+for words in "solve $work/i $work/n $work/o" "audit $work/i $work/q" "model $work/i $work/m" "verify $work/i $work/p" \
   "check $work/m $work/p" "bound $work/i $work/n $work/o" "quick $work/i $work/n $work/o"; do
   # shellcheck disable=SC2086
   "$program" $words > "$work/whole"
@@ -46,7 +46,7 @@ for words in "solve $work/i" "audit $work/i $work/q" "model $work/i $work/m" "ve
     # what the command writes is as before; `check` reads the model that `model` wrote
     case ${words%% *} in
       model) echo before > "$work/m" ;;
-      bound | quick) echo before > "$work/n"; echo before > "$work/o" ;;
+      bound | quick | solve) echo before > "$work/n"; echo before > "$work/o" ;;
     esac
     status=0
     # shellcheck disable=SC2086

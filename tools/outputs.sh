@@ -97,6 +97,8 @@ cd "$work/s"
 ends 5 quick i ./i p
 ends 5 quick i link p
 ends 5 quick i m ./m
+ends 5 solve i ./i p
+ends 5 solve i m ./m
 ends 5 quick i m other
 ends 5 quick i new ./new
 cd - > /dev/null

@@ -65,7 +65,7 @@ is_printed i m p budget n old new names other is =
         numbers = said.numbers;
         most = said.most;
         first = said.first_is;
-        unsearched = λ e. (said.unsearched e).conflicts_are;
+        unsearched = λ e. let first = said.unsearched e in (first.pairs_are, first.conflicts_are);
         stable = said.stable;
         rising = said.rising;
         report = reported_as run.outcome (solved l (finding_of end) end.best due.text) (new.content.sent Report) due.is run.report;

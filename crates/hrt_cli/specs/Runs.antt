@@ -209,8 +209,8 @@ pub record PrintsOpen (instance name proof : List ℕ) (old new : Content) : Typ
   pub fewer : length (promotion lists) < top
 
 -- The report tells the numbers of the instance that the file spells, how many rows were learned, and a weakly stable matching by rising
--- numbers of pairs, and says whether it is best. No row was learned where the first matching is as large as the ceiling. The written
--- proof is that of a solve with this budget: of the printed size, whether it is best, and of the ceiling.
+-- numbers of pairs, and says whether it is best. Where the first matching is as large as the ceiling it is printed, and no row was learned.
+-- The written proof is that of a solve with this budget: of the printed size, whether it is best, and of the ceiling.
 pub record PrintsSolved (lists : Lists) (budget : ℕ) (found : Finding) (best : Bool) (instance name proof : List ℕ) (old new : Content) : Type 0 where
   pub bytes : List ℕ
   pub file : old.file instance ≡ Some bytes
@@ -218,7 +218,7 @@ pub record PrintsSolved (lists : Lists) (budget : ℕ) (found : Finding) (best :
   pub numbers : AreNumbersOf lists found.deleted found.top
   pub most : IsMost lists found.top
   pub first : found.first ≡ length (promotion lists)
-  pub unsearched : found.first ≡ found.top → found.conflicts ≡ 0
+  pub unsearched : found.first ≡ found.top → (found.pairs ≡ promotion lists) × (found.conflicts ≡ 0)
   pub stable : IsTrue (is_weakly_stable lists found.pairs)
   pub rising : IsStrictlyIncreasing found.pairs
   pub report : new.sent Report ≡ match_report lists found best

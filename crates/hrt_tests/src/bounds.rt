@@ -1,6 +1,7 @@
 //! Runs of `bound` and `quick`.
 ghost use Rattle.std.specs.Prelude.{◌<◌};
 
+use crate::faults::{Whole, failing_in_turn};
 use crate::jobs::{BOUND_PROOF, EMPTY, NO_POST, OPEN, QUICK_PROOF, STRICT, TOWN};
 use crate::models::WORKED_MODEL;
 use crate::runs::{Ended, WORKED, check, run_over, run_writing, verify};
@@ -15,17 +16,11 @@ const BOUND_REPORT: &[u8] =
 const QUICK_REPORT: &[u8] =
     b"residents 2\nhospitals 2\npairs 3\none-sided 0\ndeleted 0\nceiling 2\nfirst 2\nconflicts 0\npair a y\npair b x\nsize 2\nbest\n";
 
-// A run of a command on `i`, `m` and `p`, with calls that move at most so many bytes, of which this one fails.
-fn prove(
-    alloc: Global,
-    command: &str,
-    instance: &[u8],
-    most: usize,
-    failing: u64,
-) -> Result<Ended, NoMemory>
+// A run of a command on `i`, `m` and `p`, with calls that move at most so many bytes.
+fn prove(alloc: Global, command: &str, instance: &[u8], most: usize) -> Result<Ended, NoMemory>
     requires { 0 < most }
 {
-    run_writing(alloc, &[command, "i", "m", "p"], instance, most, failing)
+    run_writing(alloc, &[command, "i", "m", "p"], instance, most, 1_000_000)
 }
 
 #[test]
@@ -60,7 +55,7 @@ fn worked_matchings(rt: HostRuntime) -> Result<(), Fail> {
         ),
     ];
     for (instance, code, report) in cases.iter() {
-        let ended = prove(alloc, "quick", instance, 1_000, 1_000_000)?;
+        let ended = prove(alloc, "quick", instance, 1_000)?;
         assert_eq!(rt; ended.host.sent(Port::Report), *report);
         assert_eq!(rt; ended.code, *code);
     }
@@ -84,7 +79,7 @@ fn worked_files(rt: HostRuntime) -> Result<(), Fail> {
         ("quick", b"hrt 1\n", None, None),
     ];
     for (command, instance, model, proof) in cases.iter() {
-        let ended = prove(alloc, command, instance, 16, 1_000_000)?;
+        let ended = prove(alloc, command, instance, 16)?;
         assert_eq!(rt; ended.host.file("m"), *model);
         assert_eq!(rt; ended.host.file("p"), *proof);
     }
@@ -109,15 +104,15 @@ fn worked_bounds(rt: HostRuntime) -> Result<(), Fail> {
         (b"hrt 1\n", 3, b"instance refused line 1 NoEnd\n"),
     ];
     for (instance, code, report) in cases.iter() {
-        let ended = prove(alloc, "bound", instance, 1_000, 1_000_000)?;
+        let ended = prove(alloc, "bound", instance, 1_000)?;
         assert_eq!(rt; ended.host.sent(Port::Report), *report);
         assert_eq!(rt; ended.code, *code);
     }
     Ok(())
 }
 
-// What `verify` and `check` tell of what a command wrote for the instance.
-fn accepted(
+/// What `verify` and `check` tell of what a command wrote for the instance.
+pub fn accepted(
     rt: &impl Abort,
     alloc: Global,
     command: &str,
@@ -125,7 +120,7 @@ fn accepted(
     verified: &[u8],
     checked: &[u8],
 ) -> Result<(), Fail> {
-    let written = prove(alloc, command, instance, 1_000, 1_000_000)?;
+    let written = prove(alloc, command, instance, 1_000)?;
     let proof = written.host.file("p").unwrap_or(b"");
     let ended = verify(alloc, instance, proof)?;
     assert_eq!(rt; ended.host.sent(Port::Report), verified);
@@ -227,57 +222,17 @@ fn words_of_the_commands(rt: HostRuntime) -> Result<(), Fail> {
     Ok(())
 }
 
-// How often runs ended with a fault of reading, with one of writing, and well.
-#[derive(Clone, Copy)]
-struct Counts {
-    unread: u32,
-    unwritten: u32,
-    done: u32,
-}
-
-// Each call fails in turn: begin to read and reads; two begin to write, writes and two seals; writes of the report and a seal.
-fn failing_in_turn(
-    rt: &impl Abort,
-    alloc: Global,
-    command: &str,
-    most: usize,
-    proof: &[u8],
-    report: &[u8],
-) -> Result<Counts, Fail>
-    requires { 0 < most }
-{
-    let mut counts = Counts {
-        unread: 0,
-        unwritten: 0,
-        done: 0,
-    };
-    for call in 1..900 {
-        let ended = prove(alloc, command, WORKED, most, call)?;
-        let model = ended.host.sent(Port::Model);
-        let lines = ended.host.sent(Port::Proof);
-        let told = ended.host.sent(Port::Report);
-        assert!(rt; WORKED_MODEL.starts_with(model) && proof.starts_with(lines));
-        assert!(rt; report.starts_with(told));
-        assert!(rt; lines.is_empty() || ended.host.file("m") == Some(WORKED_MODEL));
-        assert!(rt; told.is_empty() || ended.host.file("p") == Some(proof));
-        if ended.code == 4 {
-            assert!(rt; model.is_empty() && lines.is_empty());
-            counts.unread = counts.unread.saturating_add(1);
-        } else if ended.code == 5 {
-            counts.unwritten = counts.unwritten.saturating_add(1);
-        } else {
-            assert_eq!(rt; ended.code, 0);
-            assert_eq!(rt; told, report);
-            counts.done = counts.done.saturating_add(1);
-        }
-    }
-    Ok(counts)
-}
-
 #[test]
 fn each_call_of_a_bound_fails_in_turn(rt: HostRuntime) -> Result<(), Fail> {
     for most in [1, 3, 16] {
-        let counts = failing_in_turn(&rt, rt.alloc(), "bound", most, BOUND_PROOF, BOUND_REPORT)?;
+        let whole = Whole {
+            command: "bound",
+            instance: WORKED,
+            model: WORKED_MODEL,
+            proof: BOUND_PROOF,
+            report: BOUND_REPORT,
+        };
+        let counts = failing_in_turn(&rt, rt.alloc(), &whole, most)?;
         assert!(rt; counts.unread > 2 && counts.unwritten > 20 && counts.done > 0);
     }
     Ok(())
@@ -286,7 +241,14 @@ fn each_call_of_a_bound_fails_in_turn(rt: HostRuntime) -> Result<(), Fail> {
 #[test]
 fn each_call_of_a_quick_solve_fails_in_turn(rt: HostRuntime) -> Result<(), Fail> {
     for most in [1, 3, 16] {
-        let counts = failing_in_turn(&rt, rt.alloc(), "quick", most, QUICK_PROOF, QUICK_REPORT)?;
+        let whole = Whole {
+            command: "quick",
+            instance: WORKED,
+            model: WORKED_MODEL,
+            proof: QUICK_PROOF,
+            report: QUICK_REPORT,
+        };
+        let counts = failing_in_turn(&rt, rt.alloc(), &whole, most)?;
         assert!(rt; counts.unread > 2 && counts.unwritten > 20 && counts.done > 0);
     }
     Ok(())

@@ -51,7 +51,7 @@ fn terms_to_the_limit_and_past_it(rt: HostRuntime) -> Result<(), Fail> {
     assert_eq!(rt; ended.code, 7);
     assert_eq!(rt;
         ended.host.sent(Port::Report),
-        b"limit pairs 12\n".as_slice()
+        b"limit terms 8000000\n".as_slice()
     );
     Ok(())
 }

@@ -74,7 +74,18 @@ pub fn run_writing(
 
 /// A run of `solve` over an instance.
 pub fn solve(alloc: Global, instance: &[u8]) -> Result<Ended, NoMemory> {
-    run_over(alloc, &["solve", "i"], instance, b"")
+    run_writing(alloc, &["solve", "i", "m", "p"], instance, 1_000, 1_000_000)
+}
+
+/// A run of `solve` over an instance, with this budget.
+pub fn solve_within(alloc: Global, instance: &[u8], budget: &str) -> Result<Ended, NoMemory> {
+    run_writing(
+        alloc,
+        &["solve", "i", "m", "p", "--conflicts", budget],
+        instance,
+        1_000,
+        1_000_000,
+    )
 }
 
 /// A run of `audit` over an instance and pairs.

@@ -25,7 +25,7 @@ fn next(state: &mut u32, below: u32) -> u32 {
     (*state >> 16).checked_rem(below).unwrap_or(0)
 }
 
-/// The instance of a number: ranks from 0 to 3, posts from 0 to 2.
+/// The instance of a number: ranks from 0 to 3, posts from 0 to 3.
 pub fn instance_of(number: u32) -> Small {
     let mut state = number;
     let mut small = Small {
@@ -38,7 +38,7 @@ pub fn instance_of(number: u32) -> Small {
             small.by_resident[one][other] = next(&mut state, 4);
             small.by_hospital[one][other] = next(&mut state, 4);
         }
-        small.posts[one] = next(&mut state, 3);
+        small.posts[one] = next(&mut state, 4);
     }
     small
 }
@@ -84,7 +84,8 @@ impl Small {
             text.extend_from_slice(match self.posts[h] {
                 0 => b" 0:",
                 1 => b" 1:",
-                _ => b" 2:",
+                2 => b" 2:",
+                _ => b" 3:",
             })?;
             push_groups(&mut text, &self.by_hospital[h], &RESIDENTS)?;
         }
@@ -96,7 +97,7 @@ impl Small {
     pub fn posts_of(&self, h: usize) -> u32
         requires { h < 3 }
     {
-        self.posts[h].min(2)
+        self.posts[h].min(3)
     }
 
     fn blocks(&self, chosen: &Chosen, r: usize, h: usize) -> bool

@@ -13,3 +13,7 @@ mod points;
 mod promotions;
 #[cfg(test)]
 mod reductions;
+#[cfg(test)]
+mod runs;
+#[cfg(test)]
+mod solves;

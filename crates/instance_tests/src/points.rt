@@ -4,35 +4,13 @@ ghost use Rattle.std.specs.Prelude.{◌≤◌, length};
 
 use crate::definition::{Chosen, chosen_of, instance_of, pairs_text};
 use crate::instances::instance_in;
+use crate::runs::run_over;
 use hrt_base::{NoMemory, PairNo, Port};
-use hrt_cli::run;
-use hrt_host::MemoryHost;
 use pb_rows::Row;
 use rank_tables::Instance;
 use stability_model::Model;
 use std::alloc::Global;
 use std::test::Fail;
-
-// How an audit ended, and what it told.
-#[derive(Drop)]
-struct Ended {
-    code: u8,
-    host: MemoryHost,
-}
-
-// A run of `audit` over an instance and pairs.
-fn audit(alloc: Global, instance: &[u8], pairs: &[u8]) -> Result<Ended, NoMemory> {
-    let mut host = MemoryHost::new(alloc);
-    host.put_file("i", instance)?;
-    host.put_file("q", pairs)?;
-    host.give_room(Port::Report, "", 10_000)?;
-    let mut words = Vec::new(alloc);
-    for word in ["audit", "i", "q"] {
-        words.push(String::from_str(alloc, word)?)?;
-    }
-    let code = run(alloc, &words, &mut host);
-    Ok(Ended { code, host })
-}
 
 fn rows_of(alloc: Global, inst: &Instance) -> Result<Vec<Row>, NoMemory> {
     let model = Model::of(alloc, inst)?;
@@ -92,7 +70,7 @@ fn audits_and_points_are_the_definition(rt: HostRuntime) -> Result<(), Fail> {
         for bits in 0..512u32 {
             if let Some(chosen) = chosen_of(&small, bits) {
                 let pairs = pairs_text(alloc, &chosen)?;
-                let ended = audit(alloc, &text, &pairs)?;
+                let ended = run_over(alloc, &["audit", "i", "q"], ("i", &text), ("q", &pairs))?;
                 let report = small.report(alloc, &chosen)?;
                 assert_eq!(rt;
                     ended.host.sent(Port::Report),

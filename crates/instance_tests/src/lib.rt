@@ -13,7 +13,3 @@ mod points;
 mod promotions;
 #[cfg(test)]
 mod reductions;
-#[cfg(test)]
-mod runs;
-#[cfg(test)]
-mod solves;

@@ -13,3 +13,5 @@ mod points;
 mod promotions;
 #[cfg(test)]
 mod reductions;
+#[cfg(test)]
+mod runs;
